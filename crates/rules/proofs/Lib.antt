@@ -1,0 +1,4 @@
+pub mod Done
+pub mod Induction
+pub mod Named
+pub mod Sound

@@ -1,6 +1,6 @@
 -- How a run is computed: the judge by following, the run step by step, the known list by asking of each key in turn. That
--- this is the run of Runs and the list of Known is proved (proofs/Computed.antt); a reader who believes those two files need
--- not believe this one. Assumes nothing.
+-- this is the run of Runs and the list of Known is proved (proofs/Computed.antt, proofs/KnownLists.antt); a reader who
+-- believes those two files need not believe this one. Assumes nothing.
 use Prim.Native.Nat.{ℕ, zero, suc}
 use mathlib.Core.Bool.{Bool, true, false, cond}
 use mathlib.Core.List.{List, [], _∷_, _++_}

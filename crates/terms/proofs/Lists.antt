@@ -102,6 +102,19 @@ module _ {A : Type 0} where
   at-append (y ∷ l) r zero e = e
   at-append (y ∷ l) r (suc n) e = at-append l r n e
 
+  -- what is put at the end of a list stands there
+  pub at-end : (l : List A) (x : A) → getElem? (l ++ x ∷ []) (length l) ≡ some x
+  at-end [] x = refl
+  at-end (y ∷ l) x = at-end l x
+
+  -- what stands in a list with one thing put behind it stands in the list, or is that thing, at the end
+  pub at-snoc : {x : A} (l : List A) (y : A) (i : ℕ) → getElem? (l ++ y ∷ []) i ≡ some x →
+      (getElem? l i ≡ some x) ⊎ ((i ≡ length l) × (x ≡ y))
+  at-snoc [] y zero e = inr (refl, cc)
+  at-snoc [] y (suc i) e = inl e
+  at-snoc (z ∷ l) y zero e = inl e
+  at-snoc (z ∷ l) y (suc i) e = ⊎-elim inl (λ r. inr (ap suc (r .0), r .1)) (at-snoc l y i e)
+
 -- a number that is found in a list of numbers is in it
 pub is-in-true : (k : ℕ) (l : List ℕ) → is-in k l ≡ true → k ∈ l
 unfolding is-in

@@ -1,5 +1,5 @@
 -- What holds of every run, from the ground up: what a done command names, the book-keeping of every reachable state, the judge,
--- and that every list of commands has one run and every state one list of known keys.
+-- that every list of commands has one run and every state one list of known keys; then what the policies promise.
 pub mod Done
 pub mod FirstRefusal
 pub mod Induction
@@ -15,3 +15,16 @@ pub mod HeldTerms
 pub mod Judging
 pub mod Computed
 pub mod KnownLists
+pub mod TemplateFacts
+pub mod Beside
+pub mod NamedHeld
+pub mod Handles
+pub mod Births
+pub mod Rights
+pub mod Explained
+pub mod Roles
+pub mod KnownCompromised
+pub mod Generated
+pub mod NoOwnHandle
+pub mod Opened
+pub mod PlainDiffers

@@ -11,3 +11,4 @@ pub mod Finding
 pub mod Following
 pub mod Decision
 pub mod Compromise
+pub mod Opened

@@ -2,7 +2,7 @@
 -- command does, or refuses and leaves all as it was, never both. Rests on Done and FirstRefusal.
 use Prim.Native.Nat.{ℕ, zero, suc, _≤_}
 use mathlib.Core.Path.{_≡_, refl, sym, ap, subst, _∙_, fun-ext}
-use mathlib.Core.Logic.{_⊎_, inl, inr, ⊎-elim}
+use mathlib.Core.Logic.{_↔_, _⊎_, inl, inr, ⊎-elim}
 use mathlib.Core.Bool.{Bool, true, false}
 use mathlib.Core.List.{List}
 use native.Mathlib.Omega.{arith}
@@ -13,7 +13,7 @@ use Rattle.rules.specs.Changes.{answers, after}
 use Rattle.rules.specs.Refusals.{refusals, first}
 use Rattle.rules.specs.Runs.{Answer, Outcome, number-in, outcome, step, Judge, Step, Run, ends, then}
 use Rattle.rules.proofs.Done.{Done, done}
-use Rattle.rules.proofs.FirstRefusal.{FirstRefusal, first-answered, in-table}
+use Rattle.rules.proofs.FirstRefusal.{NoneApplies, FirstRefusal, first-answered, first-is-smallest, in-table}
 
 -- two tests that say yes alike are one test
 agree : (a b : Bool) → (a ≡ true → b ≡ true) → (b ≡ true → a ≡ true) → a ≡ b
@@ -80,7 +80,36 @@ outcome-refused s c (suc r) h e = (
   sym (ap (λ (o : Outcome). o .next) e),
 )
 
+outcome-answer : (s : State) (c : Command) (r : ℕ) → outcome s c r .said .answer ≡ r
+unfolding outcome
+outcome-answer s c zero = refl
+outcome-answer s c (suc r) = refl
+
 module _ {p : Policy} {s n : State} {c : Command} {a : Answer} where
+  -- the answer is the first refusal
+  answer-is-first : (st : Step p s c a n) → a .answer ≡ first (refusals p (st .held) (s .now) c)
+  unfolding step
+  answer-is-first st = sym (ap (λ (o : Outcome). o .said .answer) (st .is-step)) ∙ outcome-answer s c _
+
+  -- a command is refused with n exactly where n is the smallest refusal that applies
+  pub refused-exactly : (st : Step p s c a n) (r : ℕ) → ¬ (r ≡ 0)
+      → (a .answer ≡ r) ↔ FirstRefusal (refusals p (st .held) (s .now) c) r
+  refused-exactly st r r0 = (
+    λ e.
+        ⊎-elim (λ none. absurd (r0 (none .0))) (λ f. f)
+        (first-is-smallest p (st .held) (s .now) c r .0 (sym (answer-is-first st) ∙ e)),
+    λ f. answer-is-first st ∙ first-is-smallest p (st .held) (s .now) c r .1 (inr f),
+  )
+
+  -- and done exactly where no refusal applies
+  pub done-exactly : (st : Step p s c a n) → (a .answer ≡ 0) ↔ NoneApplies (refusals p (st .held) (s .now) c)
+  done-exactly st = (
+    λ e.
+        ⊎-elim (λ none. none .1) (λ f. absurd (omega (arith, in-table p (st .held) (s .now) c (f .applies) .0)))
+        (first-is-smallest p (st .held) (s .now) c 0 .0 (sym (answer-is-first st) ∙ e)),
+    λ none. answer-is-first st ∙ first-is-smallest p (st .held) (s .now) c 0 .1 (inl (refl, none)),
+  )
+
   -- a command is done or refused
   pub done-or-refused : (st : Step p s c a n) → WasDone p (st .held) s c a n ⊎ WasRefused p (st .held) s c a n
   unfolding step

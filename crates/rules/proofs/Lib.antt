@@ -28,3 +28,4 @@ pub mod Generated
 pub mod NoOwnHandle
 pub mod Opened
 pub mod PlainDiffers
+pub mod RefusalTable

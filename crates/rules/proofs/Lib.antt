@@ -17,6 +17,7 @@ pub mod Computed
 pub mod KnownLists
 pub mod TemplateFacts
 pub mod Beside
+pub mod KeyOrder
 pub mod NamedHeld
 pub mod Handles
 pub mod Births

@@ -1,0 +1,81 @@
+-- Document 01: the direct call. "1: at a direct call: unknown command number, policy above 2, or a body not of that command's
+-- length." "A direct call's token must come from a fresh one by earlier calls, all under the policy of this call (where that is
+-- above 2, under any one)." Assumes nothing.
+use Prim.Native.Nat.{ℕ, _≤_}
+use mathlib.Core.Path.{_≡_}
+use mathlib.Core.Bool.{Bool, true, false, not, _||_}
+use mathlib.Core.List.{List}
+use lib.Dec.{ltb, eqb}
+use lib.ListN.{length}
+use Rattle.rules.specs.Templates.{Policy}
+use Rattle.rules.specs.Commands.{Command, GENERATE, WRAP, UNWRAP, ENCRYPT, DECRYPT, CORRUPT, DESTROY, OWN-KEY, OWN-DATA, SEAL}
+use Rattle.rules.specs.State.{State}
+use Rattle.rules.specs.Runs.{Answer, Step, Reachable}
+use Rattle.sheets.specs.Sheets.{policy-number}
+use Rattle.sheets.specs.Faults.{known-number, body-length}
+use Rattle.sheets.specs.Reading.{read-command}
+use Rattle.token.specs.declared.Command.{Command as Stored}
+use Rattle.token.specs.declared.Command.the-variants.{Generate, Wrap, Unwrap, Encrypt, Decrypt, Corrupt, Destroy, OwnKey, OwnData, Seal}
+use Rattle.token.specs.declared.Parsed.{Parsed}
+use Rattle.token.specs.declared.Parsed.the-variants.{Known, Unknown}
+use Rattle.token.specs.declared.Token.{Token}
+use Rattle.token.specs.declared.Called.{Called}
+use Rattle.token.specs.Shows.{Shows}
+
+-- a command of the code, for a command of the rules
+unfoldable pub commandOf : Command → Stored
+commandOf (GENERATE f) = Generate f
+commandOf (WRAP a b) = Wrap (record { 0 = a }) (record { 0 = b })
+commandOf (UNWRAP h t f) = Unwrap (record { 0 = h }) (record { 0 = t }) f
+commandOf (ENCRYPT h t) = Encrypt (record { 0 = h }) (record { 0 = t })
+commandOf (DECRYPT h t) = Decrypt (record { 0 = h }) (record { 0 = t })
+commandOf (CORRUPT h) = Corrupt (record { 0 = h })
+commandOf (DESTROY h) = Destroy (record { 0 = h })
+commandOf OWN-KEY = OwnKey
+commandOf OWN-DATA = OwnData
+commandOf (SEAL k t) = Seal (record { 0 = k }) (record { 0 = t })
+
+-- the command that a number and a body state, or none
+unfoldable pub parsedIf : (is-none : Bool) → Command → Parsed
+parsedIf true c = Unknown
+parsedIf false c = Known (commandOf c)
+
+unfoldable pub no-command : (number : ℕ) (body : List ℕ) → Bool
+no-command number body = not (known-number number) || not (eqb (length body) (body-length number))
+
+unfoldable pub parsed : (number : ℕ) (body : List ℕ) → Parsed
+parsed number body = parsedIf (no-command number body) (read-command number body)
+
+unfoldable pub not-a-call : (policy number : ℕ) (body : List ℕ) → Bool
+not-a-call policy number body = ltb 2 policy || no-command number body
+
+-- a token's state: reached under one policy, which is the policy of this call where that is at most 2
+pub record ComesFrom (token : Token) (policy : ℕ) (p : Policy) (s : State) : Type 0 where
+  pub reachable : Reachable p s
+  pub shown : Shows token s
+  pub this-policy : policy ≤ 2 → policy-number p ≡ policy
+
+pub record Reached (token : Token) (policy : ℕ) : Type 0 where
+  pub under : Policy
+  pub state : State
+  pub comes : ComesFrom token policy under state
+
+-- what is given back, where the call is none, and where it is one
+pub record Refused1 (token : Token) (r : Called) : Type 0 where
+  pub answers-1 : r .answer ≡ 1
+  pub no-value : r .value ≡ 0
+  pub same-token : r .token ≡ token
+
+pub record Stepped (p : Policy) (s : State) (number : ℕ) (body : List ℕ) (r : Called) : Type 0 where
+  pub next : State
+  pub step : Step p s (read-command number body) (record { answer = r .answer; value = r .value }) next
+  pub shows-next : Shows (r .token) next
+
+abbrev pub CallAnswer : (not-a-call : Bool) → Token → Policy → State → (number : ℕ) → (body : List ℕ) → Called → Type 0
+CallAnswer true token p s number body r = Refused1 token r
+CallAnswer false token p s number body r = Stepped p s number body r
+
+-- the whole promise: of every state that the token comes from
+abbrev pub Answered : Token → (policy number : ℕ) → (body : List ℕ) → Called → Type 0
+Answered token policy number body r =
+    (p : Policy) (s : State) → ComesFrom token policy p s → CallAnswer (not-a-call policy number body) token p s number body r

@@ -1,5 +1,5 @@
--- The change of a done command, made in a token that shows the state, gives a token that shows the state after the command. Rests on
--- ChangedCommands.
+-- The change of a done command, made in a token that shows the state, gives a token that shows the state after the command.
+-- Rests on ChangedCommands.
 use Prim.Native.Nat.{ℕ}
 use mathlib.Core.Bool.{Bool}
 use Rattle.rules.specs.Templates.{Policy}

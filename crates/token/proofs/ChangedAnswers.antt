@@ -1,5 +1,5 @@
--- A term is entered and given, and nothing else changes that a token shows: what following then reaches. Where the term was there and
--- held, and where a new seal opens no new key, it reaches as far as before; otherwise one key leaks. Rests on MarksKept.
+-- A term is entered and given, and nothing else changes that a token shows: what following then reaches. Where the term was there
+-- and held, and where a new seal opens no new key, it reaches as far as before; otherwise one key leaks. Rests on MarksKept.
 use Prim.Native.Nat.{ℕ}
 use native.Mathlib.Omega.{arith}
 use mathlib.Core.Path.{_≡_, sym, ap, subst, _∙_}
@@ -27,6 +27,7 @@ pub record Answers (s s′ : State) (m : Term) : Type 0 where
   pub given-more : s′ .past .given ≡ m ∷ s .past .given
 
 module _ {s s′ : State} {m : Term} (a : Answers s s′ m) where
+  -- what is owned was owned; what is given was given, or is the term
   own-was : {x : Term} → x ∈ s′ .past .own → x ∈ s .past .own
   own-was {x} h = subst (λ (l : List Term). x ∈ l) (a .same-own) h
 
@@ -49,12 +50,14 @@ module _ {s s′ : State} {m : Term} (a : Answers s s′ m) where
 
   -- the term was there, and held if it is a key: nothing changes
   module _ (there : m ∈ s .now .table) where
+    -- the table holds what it held
     in-old : {x : Term} → x ∈ s′ .now .table → x ∈ s .now .table
     in-old {x} h = subst (λ (l : Table). x ∈ l) (same-table there) h
 
     in-new : (x : Term) → x ∈ s .now .table → x ∈ s′ .now .table
     in-new x h = subst (λ (l : Table). x ∈ l) (sym (same-table there)) h
 
+    -- every key keeps its mark
     pub again-marks : ((k : ℕ) → m ≡ key k → Reaches s k) → SameMarks s s′
     again-marks known k h =
         same-mark s s′ k (still in-new k)
@@ -85,6 +88,7 @@ module _ {s s′ : State} {m : Term} (a : Answers s s′ m) where
 
   -- a seal that was not there
   module _ (k : ℕ) (x : Term) (is-seal : m ≡ seal k x) (new : listed (s .now .table) m ≡ false) where
+    -- the table holds what it held, and the seal
     in-more : (y : Term) → y ∈ s .now .table → y ∈ s′ .now .table
     in-more y h = subst (λ (l : Table). y ∈ l) (sym (more-table new)) (Memᴰ·append-left (m ∷ []) h)
 
@@ -93,9 +97,11 @@ module _ {s s′ : State} {m : Term} (a : Answers s s′ m) where
         ⊎-elim inl (λ n. inr (List·Memᴰ·eq-of-singleton n))
         (List·Memᴰ·append-cases (s .now .table) (subst (λ (l : Table). y ∈ l) (more-table new) h))
 
+    -- a seal is no key
     no-key : {j : ℕ} → ¬ (key j ≡ m)
     no-key q = let z : _≡_ {A = ℕ} 0 1 = cc in omega arith
 
+    -- its key is not reached, or its payload is no key or is reached: every key keeps its mark
     pub seal-marks : ((j : ℕ) → x ≡ key j → Reaches s k → Reaches s j) → SameMarks s s′
     seal-marks known n h =
         same-mark s s′ n (still in-more n)
@@ -112,7 +118,8 @@ module _ {s s′ : State} {m : Term} (a : Answers s s′ m) where
             known j xj (subst (Reaches s) ok r)
 
     -- its key is reached, and the payload is a key: that leaks
-    pub seal-leaks : (j : ℕ) → x ≡ key j → mark s j ≡ false → x ∈ s .now .table → Reaches s k → Leaking s s′ (number-of (s .now .table) x)
+    pub seal-leaks : (j : ℕ) → x ≡ key j → mark s j ≡ false → x ∈ s .now .table → Reaches s k →
+        Leaking s s′ (number-of (s .now .table) x)
     seal-leaks j e unmarked there reached =
         record {
           leaked = j;

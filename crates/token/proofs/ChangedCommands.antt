@@ -1,29 +1,21 @@
 -- The change of each done command can be made in a token that shows the state, and gives a token that shows the state after the
 -- command. One law a command. Rests on ChangedGiven, ChangedMade and ShownHands.
-use Prim.Native.Nat.{ℕ, _≤_, _<_}
-use native.Mathlib.Omega.{arith}
+use Prim.Native.Nat.{ℕ}
 use mathlib.Core.Path.{_≡_, refl, sym, ap, ap₂, subst, _∙_}
-use mathlib.Core.Bool.{Bool, true, false, not, _&&_, true≢false}
+use mathlib.Core.Bool.{Bool, true, false}
 use mathlib.Core.List.{List, List·Memᴰ·head, List·Memᴰ·tail}
-use lib.Dec.{ltb}
-use lib.ListN.{length, getD, List·getD-eq-default}
-use borrow.Author.Tests.{leb-false, ltb-true, ltb-false, not-true, not-false}
-use Rattle.terms.specs.Lists.{_∈_, some-of}
-use Rattle.terms.specs.Terms.{Term, item, key, seal, listed, number-of}
-use Rattle.terms.specs.WorkingOut.{Held}
+use Rattle.terms.specs.Lists.{_∈_}
+use Rattle.terms.specs.Terms.{Term, item, key, number-of}
 use Rattle.terms.specs.Following.{own-key}
-use Rattle.terms.proofs.Lists.{bool-cases, some-of-in}
 use Rattle.terms.proofs.Terms.{number-new}
 use Rattle.rules.specs.Templates.{Policy}
 use Rattle.rules.specs.Commands.{Command, GENERATE, WRAP, UNWRAP, ENCRYPT, DECRYPT, CORRUPT, DESTROY, OWN-KEY, OWN-DATA, SEAL}
-use Rattle.rules.specs.State.{State, Now, dead, live, generated, own, slot, is-live, term-at, key-number, payload}
-use Rattle.rules.specs.State.{new-handle, new-key, table-full, most-terms, most-handles}
-use Rattle.rules.specs.Changes.{enters, answers, changes, giving, all-changes, change-now, change-past, all-of, after}
-use Rattle.rules.specs.Refusals.{enters-new}
+use Rattle.rules.specs.State.{State, dead, live, generated, own, is-live, term-at, key-number, payload}
+use Rattle.rules.specs.State.{new-handle, new-key}
+use Rattle.rules.specs.Changes.{after}
 use Rattle.rules.specs.Runs.{Judge}
 use Rattle.rules.proofs.Done.{Done}
-use Rattle.rules.proofs.Judging.{known-reached}
-use Rattle.rules.proofs.Named.{Live, both, generates, wraps-named, unwraps-named, encrypts-named, decrypts-named, corrupts-named}
+use Rattle.rules.proofs.Named.{generates, wraps-named, unwraps-named, encrypts-named, decrypts-named, corrupts-named}
 use Rattle.rules.proofs.Named.{destroys-named, seals-named}
 use Rattle.rules.proofs.NamedHeld.{held-term}
 use Rattle.rules.proofs.NewHandle.{new-handle-below}
@@ -35,98 +27,41 @@ use Rattle.token.specs.declared.Hands.{Hands}
 use Rattle.token.specs.declared.Token.{Token}
 use Rattle.token.specs.Shows.{Shows, ShowsHands, slot-for, is-own}
 use Rattle.token.specs.Applied.{Applied, SlotSet, new-slot}
-use Rattle.token.proofs.ChangeFor.{held-in, change-for}
-use Rattle.token.proofs.MarksKept.{Reaches, mark, marked-reached, reached-marked}
+use Rattle.token.proofs.ChangeFor.{change-for}
+use Rattle.token.proofs.MarksKept.{reached-marked}
 use Rattle.token.proofs.ShownHands.{hands-set, hands-kept}
 use Rattle.token.proofs.ShownTable.{snoc-extends}
 use Rattle.token.proofs.ChangedKinds.{changed-hands}
 use Rattle.token.proofs.ChangedWorks.{Works, term-room, hand-room}
-use Rattle.token.proofs.ChangedGiven.{SealLeaks, gift-works, seal-works}
-use Rattle.token.proofs.ChangedMade.{Makes, adds-none, adds-first, not-listed, made-table, made-unmarked, item-made}
+use Rattle.token.proofs.ChangedGiven.{gift-works, seal-works}
+use Rattle.token.proofs.ChangedDone.{after-opened, room-for, live-below, held-leaks, wrap-leaks, generate-makes}
+use Rattle.token.proofs.ChangedDone.{own-key-makes, own-data-makes}
+use Rattle.token.proofs.ChangedMade.{not-listed, made-table, made-unmarked, item-made}
 use Rattle.token.proofs.ChangedMade.{key-made}
 
--- a done command that enters a new term has room for it
-room-for : {p : Policy} {held : ℕ → Bool} {now : Now} {c : Command} → Done p held now c → (m : Term) →
-    enters m ∈ all-changes now c → listed (now .table) m ≡ false → length (now .table) < most-terms
-unfolding enters-new table-full
-room-for {now = now} {c = c} d m there new =
-    leb-false most-terms (length (now .table))
-    (first (table-full now) (some-of (enters-new now) (all-changes now c)) (d .room)
-    (some-of-in (enters-new now) there (ap not new)))
-  where
-    first : (a b : Bool) → (a && b) ≡ false → b ≡ true → a ≡ false
-    first true b e f = sym f ∙ e
-    first false b e f = refl
-
--- a live handle's number is a handle's
-live-below : {s : State} {h : ℕ} → Sound s → Live (s .now) h → h < most-handles
-unfolding slot
-live-below {s} {h} i l =
-    bool-cases (ltb h most-handles) (λ e. ltb-true h most-handles e)
-    (λ e.
-    let past : most-handles ≤ h = ltb-false h most-handles e in
-    let is-dead : getD (s .now .handles) h dead ≡ dead = List·getD-eq-default (s .now .handles) dead (omega (arith, i .slots)) in
-    let is-alive : getD (s .now .handles) h dead ≡ live (l .key-no) (l .flags-no) = l .is-slot in
-    let z : _≡_ {A = ℕ} 0 1 = cc in absurd (omega arith))
-
--- a seal that is made of held terms leaks no key
-held-leaks : (s : State) (k : ℕ) (x : Term) → Sound s → Held (s .past .own) (s .past .given) x → SealLeaks s k x false
-held-leaks s k x i h =
-    record {
-      leaks-key = λ e. absurd (true≢false (sym e));
-      outer-known = λ e. absurd (true≢false (sym e));
-      no-leak = λ e j q r. known-reached i (subst (λ (m : Term). Held (s .past .own) (s .past .given) m) q h);
-    }
-
--- a wrapped key leaks where the outer key is held and it is not
-wrap-leaks : (s : State) (k j : ℕ) → SealLeaks s k (key j) (held-in s (key k) && not (held-in s (key j)))
-unfolding held-in
-wrap-leaks s k j =
-    record {
-      leaks-key = λ e. (j, refl, not-true (mark s j) (both (mark s k) (not (mark s j)) e .1));
-      outer-known = λ e. marked-reached s k (both (mark s k) (not (mark s j)) e .0);
-      no-leak = λ e n (q : key j ≡ key n) r.
-          let same : j ≡ n = cc in
-          subst (Reaches s) same (marked-reached s j (not-false (mark s j) (second (mark s k) (not (mark s j)) e (reached-marked s r))));
-    }
-  where
-    second : (a b : Bool) → (a && b) ≡ false → a ≡ true → b ≡ false
-    second true b e f = e
-    second false b e f = absurd (true≢false (sym f))
-
--- the key and the item made next are not in the table
-key-new : {s : State} → Sound s → ¬ (key (new-key (s .now)) ∈ s .now .table)
-unfolding new-key
-key-new i h = omega (arith, i .keys-counted h)
-
-item-new : {s : State} → Sound s → ¬ (item (s .now .items) ∈ s .now .table)
-item-new i h = omega (arith, i .items-counted h)
-
-no-seal-key : (n k : ℕ) (x : Term) → ¬ (key n ≡ seal k x)
-no-seal-key n k x e = let z : _≡_ {A = ℕ} 0 1 = cc in omega arith
-
-no-seal-item : (n k : ℕ) (x : Term) → ¬ (item n ≡ seal k x)
-no-seal-item n k x e = let z : _≡_ {A = ℕ} 0 1 = cc in omega arith
-
 module _ {p : Policy} {s : State} {held : ℕ → Bool} (i : Sound s) (j : Judge s held) {t : Token} (shows : Shows t s) where
+  -- WRAP seals a key, which may leak
   wrap-works : (a b : ℕ) → Done p held (s .now) (WRAP a b) → Works t (after s (WRAP a b)) (change-for s (WRAP a b))
-  unfolding change-for after all-of all-changes changes giving answers change-now change-past
+  unfolding change-for after-opened
   wrap-works a b d =
       let w = wraps-named d in
       seal-works i (sound-kept p s (WRAP a b) held j d i) shows _ _ _
       (record { entered = refl; same-origins = refl; same-handles = refl; same-own = refl; given-more = refl })
       (live-in i (w .outer)) (live-in i (w .inner)) (room-for d _ (List·Memᴰ·tail (List·Memᴰ·head refl))) (wrap-leaks s _ _)
 
+  -- ENCRYPT seals a held term
   encrypt-works : (h n : ℕ) → Done p held (s .now) (ENCRYPT h n) → Works t (after s (ENCRYPT h n)) (change-for s (ENCRYPT h n))
-  unfolding change-for after all-of all-changes changes giving answers change-now change-past
+  unfolding change-for after-opened
   encrypt-works h n d =
       let e = encrypts-named d in
       seal-works i (sound-kept p s (ENCRYPT h n) held j d i) shows _ _ _
       (record { entered = refl; same-origins = refl; same-handles = refl; same-own = refl; given-more = refl })
-      (live-in i (e .handle)) (e .the-term .in-table) (room-for d _ (List·Memᴰ·head refl)) (held-leaks s _ _ i (held-term j (e .the-term)))
+      (live-in i (e .handle)) (e .the-term .in-table) (room-for d _ (List·Memᴰ·head refl))
+      (held-leaks s _ _ i (held-term j (e .the-term)))
 
+  -- SEAL does, too
   seal-command-works : (k n : ℕ) → Done p held (s .now) (SEAL k n) → Works t (after s (SEAL k n)) (change-for s (SEAL k n))
-  unfolding change-for after all-of all-changes changes giving answers change-now change-past
+  unfolding change-for after-opened
   seal-command-works k n d =
       let e = seals-named d in
       seal-works i (sound-kept p s (SEAL k n) held j d i) shows _ _ _
@@ -134,28 +69,33 @@ module _ {p : Policy} {s : State} {held : ℕ → Bool} (i : Sound s) (j : Judge
       (subst (λ (m : Term). m ∈ s .now .table) (e .is-key-term) (e .the-key .in-table)) (e .the-term .in-table)
       (room-for d _ (List·Memᴰ·head refl)) (held-leaks s _ _ i (held-term j (e .the-term)))
 
+  -- DECRYPT gives the payload of a seal
   decrypt-works : (h n : ℕ) → Done p held (s .now) (DECRYPT h n) → Works t (after s (DECRYPT h n)) (change-for s (DECRYPT h n))
-  unfolding change-for after all-of all-changes changes giving answers change-now change-past
+  unfolding change-for after-opened
   decrypt-works h n d =
       let e = decrypts-named d in
       gift-works i (sound-kept p s (DECRYPT h n) held j d i) shows
       (record { entered = refl; same-origins = refl; same-handles = refl; same-own = refl; given-more = refl })
       (parts-in (i .shape) (subst (λ (m : Term). m ∈ s .now .table) (e .sealed) (e .the-term .in-table)) .1)
 
+  -- CORRUPT gives a key
   corrupt-works : (h : ℕ) → Done p held (s .now) (CORRUPT h) → Works t (after s (CORRUPT h)) (change-for s (CORRUPT h))
-  unfolding change-for after all-of all-changes changes giving answers change-now change-past
+  unfolding change-for after-opened
   corrupt-works h d =
       gift-works i (sound-kept p s (CORRUPT h) held j d i) shows
       (record { entered = refl; same-origins = refl; same-handles = refl; same-own = refl; given-more = refl })
       (live-in i (corrupts-named d))
 
-  unwrap-works : (h n f : ℕ) → Done p held (s .now) (UNWRAP h n f) → Works t (after s (UNWRAP h n f)) (change-for s (UNWRAP h n f))
-  unfolding Applied change-for after all-of all-changes changes giving answers change-now change-past slot-for is-live payload
+  -- UNWRAP binds a handle number to a key of the table
+  unwrap-works : (h n f : ℕ) → Done p held (s .now) (UNWRAP h n f) →
+      Works t (after s (UNWRAP h n f)) (change-for s (UNWRAP h n f))
+  unfolding Applied change-for after-opened slot-for is-live payload
   unwrap-works h n f d =
       let u = unwraps-named d in
       let i′ = sound-kept p s (UNWRAP h n f) held j d i in
       let inside = new-handle-below (s .now) (i .slots) (u .handle-free) in
-      let same-slot : payload (term-at (s .now) n) ≡ key (key-number (payload (term-at (s .now) n))) = ap payload (u .sealed-key) in
+      let same-slot : payload (term-at (s .now) n) ≡ key (key-number (payload (term-at (s .now) n))) =
+      ap payload (u .sealed-key) in
       record {
         applicable = hand-room (new-handle (s .now)) shows inside;
         shows-next = λ r made.
@@ -171,8 +111,9 @@ module _ {p : Policy} {s : State} {held : ℕ → Bool} (i : Sound s) (j : Judge
             (shows .hands-shown));
       }
 
+  -- DESTROY sets one free
   destroy-works : (h : ℕ) → Done p held (s .now) (DESTROY h) → Works t (after s (DESTROY h)) (change-for s (DESTROY h))
-  unfolding Applied change-for after all-of all-changes changes giving answers change-now change-past slot-for is-live
+  unfolding Applied change-for after-opened slot-for is-live
   destroy-works h d =
       let i′ = sound-kept p s (DESTROY h) held j d i in
       let inside = live-below i (destroys-named d) in
@@ -184,18 +125,12 @@ module _ {p : Policy} {s : State} {held : ℕ → Bool} (i : Sound s) (j : Judge
             (shows .hands-shown));
       }
 
+  -- OWN-DATA makes an item
   own-data-works : Done p held (s .now) OWN-DATA → Works t (after s OWN-DATA) (change-for s OWN-DATA)
-  unfolding Applied change-for after all-of all-changes changes giving answers change-now change-past
+  unfolding Applied change-for after-opened
   own-data-works d =
       let i′ = sound-kept p s OWN-DATA held j d i in
-      let makes : Makes s (after s OWN-DATA) (item (s .now .items)) =
-      record {
-        entered = refl;
-        own-adds = adds-first;
-        given-adds = adds-first;
-        is-new = item-new i;
-        no-seal = no-seal-item (s .now .items);
-      } in
+      let makes = own-data-makes i in
       let few = room-for d (item (s .now .items)) (List·Memᴰ·tail (List·Memᴰ·tail (List·Memᴰ·head refl))) (not-listed i makes) in
       record {
         applicable = term-room i shows few;
@@ -207,19 +142,13 @@ module _ {p : Policy} {s : State} {held : ℕ → Bool} (i : Sound s) (j : Judge
             (shows .hands-shown)));
       }
 
+  -- OWN-KEY makes a key that is held
   own-key-works : Done p held (s .now) OWN-KEY → Works t (after s OWN-KEY) (change-for s OWN-KEY)
-  unfolding Applied change-for after all-of all-changes changes giving answers change-now change-past is-own
+  unfolding Applied change-for after-opened is-own
   own-key-works d =
       let i′ = sound-kept p s OWN-KEY held j d i in
-      let makes : Makes s (after s OWN-KEY) (key (new-key (s .now))) =
-      record {
-        entered = refl;
-        own-adds = adds-first;
-        given-adds = adds-first;
-        is-new = key-new i;
-        no-seal = no-seal-key (new-key (s .now));
-      } in
-      let few = room-for d (key (new-key (s .now))) (List·Memᴰ·tail (List·Memᴰ·tail (List·Memᴰ·head refl))) (not-listed i makes) in
+      let makes = own-key-makes i in
+      let few = room-for d _ (List·Memᴰ·tail (List·Memᴰ·tail (List·Memᴰ·head refl))) (not-listed i makes) in
       record {
         applicable = term-room i shows few;
         shows-next = λ r made.
@@ -233,18 +162,12 @@ module _ {p : Policy} {s : State} {held : ℕ → Bool} (i : Sound s) (j : Judge
             }) refl (shows .hands-shown)));
       }
 
+  -- GENERATE makes a key that is not, and binds a handle number to it
   generate-works : (f : ℕ) → Done p held (s .now) (GENERATE f) → Works t (after s (GENERATE f)) (change-for s (GENERATE f))
-  unfolding Applied change-for after all-of all-changes changes giving answers change-now change-past is-own slot-for is-live new-key
+  unfolding Applied change-for after-opened is-own slot-for is-live new-key
   generate-works f d =
       let i′ = sound-kept p s (GENERATE f) held j d i in
-      let makes : Makes s (after s (GENERATE f)) (key (new-key (s .now))) =
-      record {
-        entered = refl;
-        own-adds = adds-none;
-        given-adds = adds-none;
-        is-new = key-new i;
-        no-seal = no-seal-key (new-key (s .now));
-      } in
+      let makes = generate-makes f i in
       let few = room-for d (key (new-key (s .now))) (List·Memᴰ·tail (List·Memᴰ·head refl)) (not-listed i makes) in
       let inside = new-handle-below (s .now) (i .slots) (generates d .handle-free) in
       let number : t .table .terms ≡ number-of (after s (GENERATE f) .now .table) (key (new-key (s .now))) =

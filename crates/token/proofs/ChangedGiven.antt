@@ -45,18 +45,21 @@ pub record SealLeaks (s : State) (k : ℕ) (x : Term) (leaks : Bool) : Type 0 wh
   pub no-leak : leaks ≡ false → (j : ℕ) → x ≡ key j → Reaches s k → Reaches s j
 
 module _ {s s′ : State} (i : Sound s) (i′ : Sound s′) {t : Token} (shows : Shows t s) where
+  -- the hands show the next state, where the term was there
   same-hands : {m : Term} (a : Answers s s′ m) → m ∈ s .now .table → ShowsHands (t .hands) (s′ .now)
   same-hands a there =
       hands-kept i i′
       (record { table-more = same-extends (same-table a there); origins-more = same-extends (a .same-origins) })
       (a .same-handles) (shows .hands-shown)
 
+  -- and where it was not
   more-hands : {m : Term} (a : Answers s s′ m) → listed (s .now .table) m ≡ false → ShowsHands (t .hands) (s′ .now)
   more-hands {m} a e =
       hands-kept i i′
       (record { table-more = snoc-extends (s .now .table) m (more-table a e); origins-more = same-extends (a .same-origins) })
       (a .same-handles) (shows .hands-shown)
 
+  -- a term's number is inside
   number-inside : {x : Term} → x ∈ s .now .table → number-of (s .now .table) x < most-terms
   number-inside {x} h = omega (arith, at-below (s .now .table) (number-of (s .now .table) x) (number-at h), shows .room)
 
@@ -102,7 +105,8 @@ module _ {s s′ : State} (i : Sound s) (i′ : Sound s′) {t : Token} (shows :
           Works t s′ (cond b (Know (record { 0 = number-of (s .now .table) m })) Nothing)
       go true e =
           let is = key-term m (both (is-key m) (not (held-in s m)) e .0) in
-          know-works a there (key-number m) is (sym (ap (held-in s) is) ∙ not-true (held-in s m) (both (is-key m) (not (held-in s m)) e .1))
+          let unmarked = not-true (held-in s m) (both (is-key m) (not (held-in s m)) e .1) in
+          know-works a there (key-number m) is (sym (ap (held-in s) is) ∙ unmarked)
       go false e = nothing-works a there (not-leaking s m e)
 
   -- a seal is answered that was not there
@@ -114,7 +118,8 @@ module _ {s s′ : State} (i : Sound s) (i′ : Sound s′) {t : Token} (shows :
     new-works true known =
         let et = more-table a new in
         let eo = a .same-origins in
-        let leak = seal-leaks a k x refl new (known .leaks-key refl .0) (known .leaks-key refl .1) (known .leaks-key refl .2) payload-in (known .outer-known refl) in
+        let inner = known .leaks-key refl in
+        let leak = seal-leaks a k x refl new (inner .0) (inner .1) (inner .2) payload-in (known .outer-known refl) in
         record {
           applicable =
               record {

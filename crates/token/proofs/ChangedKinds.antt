@@ -1,6 +1,6 @@
--- A change of each kind, made in a token that shows a state, gives a token that shows the next state, where the two states differ as
--- the kind says: nothing but slots; one more key or item; one more seal, with a leak or without; a leak. Rests on ShownTable,
--- ShownLinks and ShownHands.
+-- A change of each kind, made in a token that shows a state, gives a token that shows the next state, where the two states differ
+-- as the kind says: nothing but slots; one more key or item; one more seal, with a leak or without; a leak. Rests on ShownTable
+-- and ShownLinks.
 use Prim.Native.Nat.{ℕ, suc, _≤_, _<_}
 use native.Mathlib.Omega.{arith}
 use mathlib.Core.Path.{_≡_, refl, sym, ap, subst, _∙_}
@@ -51,8 +51,8 @@ module _ {s s′ : State} (i : Sound s) (i′ : Sound s′) {t : Token} (shows :
           (subst (λ (x : Stored). ShowsLinks (t .links) (x .entries) (length (s .now .table))) (sym rt) (shows .links-shown)))
 
   -- the table stays, but for a leak
-  pub changed-known : {r : Token} → (p : ℕ) → s′ .now .table ≡ s .now .table → s′ .now .origins ≡ s .now .origins → Leaking s s′ p →
-      TableFollowed (t .table) p (r .table) → r .links ≡ t .links → ShowsHands (r .hands) (s′ .now) → Shows r s′
+  pub changed-known : {r : Token} → (p : ℕ) → s′ .now .table ≡ s .now .table → s′ .now .origins ≡ s .now .origins →
+      Leaking s s′ p → TableFollowed (t .table) p (r .table) → r .links ≡ t .links → ShowsHands (r .hands) (s′ .now) → Shows r s′
   changed-known {r} p et eo leak followed rl hands = parts-show room table links hands
     where
       room : length (s′ .now .table) ≤ most-terms
@@ -69,6 +69,7 @@ module _ {s s′ : State} (i : Sound s) (i′ : Sound s′) {t : Token} (shows :
 
   -- a term is entered
   module _ (m : Term) (few : length (s .now .table) < most-terms) (et : s′ .now .table ≡ s .now .table ++ m ∷ []) where
+    -- the counts before and after, and the links before
     one-more : suc (t .table .terms) ≡ length (s′ .now .table)
     one-more = ap suc (shows .terms-shown) ∙ sym (ap length et ∙ length-snoc (s .now .table) m)
 
@@ -113,13 +114,16 @@ module _ {s s′ : State} (i : Sound s) (i′ : Sound s′) {t : Token} (shows :
   module _ (k : ℕ) (x : Term) (few : length (s .now .table) < most-terms) (et : s′ .now .table ≡ s .now .table ++ seal k x ∷ [])
       (eo : s′ .now .origins ≡ s .now .origins) (key-in : key k ∈ s .now .table) (payload-in : x ∈ s .now .table) where
     -- its entry is appended to the table
-    pub seal-table : {u : State} → TableShown (t .table) (s .now) u → TableShown (appended (t .table) (new-seal s k x)) (s′ .now) u
+    pub seal-table : {u : State} → TableShown (t .table) (s .now) u →
+        TableShown (appended (t .table) (new-seal s k x)) (s′ .now) u
     unfolding kind-for own-for held-for
     seal-table shown =
-        let grows : Grows (s .now) (s′ .now) = record { table-more = snoc-extends (s .now .table) (seal k x) et; origins-more = same-extends eo } in
+        let grows : Grows (s .now) (s′ .now) =
+        record { table-more = snoc-extends (s .now .table) (seal k x) et; origins-more = same-extends eo } in
         table-entered i i′ shown (seal k x) (new-seal s k x) few et (same-extends eo) (ap length (sym eo))
         (ap (λ (n : ℕ). Seal (record { 0 = k }) (record { 0 = n })) (sym (number-kept i i′ grows payload-in))) refl refl
 
+    -- and it is put into its chains
     pub seal-links : ShowsLinks (linked (t .links) (t .table .terms) k (number-of (s .now .table) x))
         (appended (t .table) (new-seal s k x) .entries) (length (s′ .now .table))
     seal-links =
@@ -130,7 +134,8 @@ module _ {s s′ : State} (i : Sound s) (i′ : Sound s′) {t : Token} (shows :
 
     -- without a leak
     pub changed-sealed : {r : Token} → SameMarks s s′ → r .table ≡ appended (t .table) (new-seal s k x) →
-        r .links ≡ linked (t .links) (t .table .terms) k (number-of (s .now .table) x) → ShowsHands (r .hands) (s′ .now) → Shows r s′
+        r .links ≡ linked (t .links) (t .table .terms) k (number-of (s .now .table) x) →
+        ShowsHands (r .hands) (s′ .now) → Shows r s′
     changed-sealed {r} marks rt rl hands = parts-show (room-more (seal k x) few et) table links hands
       where
         table : TableShown (r .table) (s′ .now) s′
@@ -144,8 +149,10 @@ module _ {s s′ : State} (i : Sound s) (i′ : Sound s′) {t : Token} (shows :
             (length (s′ .now .table))) (sym rt) seal-links)
 
     -- with a leak
-    pub changed-leaked : {r : Token} → (p : ℕ) → Leaking s s′ p → TableFollowed (appended (t .table) (new-seal s k x)) p (r .table) →
-        r .links ≡ linked (t .links) (t .table .terms) k (number-of (s .now .table) x) → ShowsHands (r .hands) (s′ .now) → Shows r s′
+    pub changed-leaked : {r : Token} → (p : ℕ) → Leaking s s′ p →
+        TableFollowed (appended (t .table) (new-seal s k x)) p (r .table) →
+        r .links ≡ linked (t .links) (t .table .terms) k (number-of (s .now .table) x) →
+        ShowsHands (r .hands) (s′ .now) → Shows r s′
     changed-leaked {r} p leak followed rl hands = parts-show (room-more (seal k x) few et) table links hands
       where
         table : TableShown (r .table) (s′ .now) s′

@@ -1,5 +1,5 @@
--- A key or a data item is made: its entry is appended, and every other key keeps its mark, since nothing is sealed under a key before
--- it is made. Rests on ChangedKinds.
+-- A key or a data item is made: its entry is appended, and every other key keeps its mark, since nothing is sealed under a key
+-- before it is made. Rests on ChangedKinds.
 use Prim.Native.Nat.{ℕ, _<_}
 use mathlib.Core.Path.{_≡_, refl, sym, ap, subst, _∙_}
 use mathlib.Core.Bool.{Bool, false}
@@ -26,17 +26,20 @@ use Rattle.token.proofs.ShownLinks.{data-no-seal, key-no-seal}
 use Rattle.token.proofs.ShownTable.{length-snoc, same-extends, snoc-extends}
 use Rattle.token.proofs.ChangedKinds.{changed-entered}
 
--- the second list is the first, perhaps with one thing more
+-- the second list has what the first has, and at most one thing more
 pub record Adds {A : Type 0} (less more : List A) (x : A) : Type 0 where
   pub kept : less ⊆ more
   pub at-most : (y : A) → y ∈ more → (y ≡ x) ⊎ (y ∈ less)
 
+-- nothing is added
 pub adds-none : {A : Type 0} {l : List A} {x : A} → Adds l l x
 adds-none = record { kept = λ y h. h; at-most = λ y h. inr h }
 
+-- it is put in front
 pub adds-first : {A : Type 0} {l : List A} {x : A} → Adds l (x ∷ l) x
 adds-first = record { kept = λ y h. List·Memᴰ·tail h; at-most = λ y h. List·Memᴰ·cases-cons h }
 
+-- it is entered
 adds-enter : (table : Table) (m : Term) → Adds table (enter table m) m
 adds-enter table m = record { kept = λ y h. in-enter table m h; at-most = λ y h. ⊎-elim inr inl (enter-cases table m h) }
 
@@ -49,13 +52,16 @@ pub record Makes (s s′ : State) (m : Term) : Type 0 where
   pub no-seal : (k : ℕ) (x : Term) → ¬ (m ≡ seal k x)
 
 module _ {s s′ : State} {m : Term} (i : Sound s) (makes : Makes s s′ m) where
+  -- it is added to the table
   table-adds : Adds (s .now .table) (s′ .now .table) m
   table-adds = subst (λ (l : Table). Adds (s .now .table) l m) (sym (makes .entered)) (adds-enter (s .now .table) m)
 
+  -- it is not listed
   pub not-listed : listed (s .now .table) m ≡ false
   not-listed =
       bool-cases (listed (s .now .table) m) (λ e. absurd (makes .is-new (listed-true (s .now .table) m e))) (λ e. e)
 
+  -- so it is at the end
   pub made-table : s′ .now .table ≡ s .now .table ++ m ∷ []
   made-table = makes .entered ∙ enter-new (s .now .table) m not-listed
 
@@ -96,7 +102,9 @@ module _ {s s′ : State} {m : Term} (i : Sound s) (makes : Makes s s′ m) wher
   pub made-marks : SameMarks s s′
   made-marks k h =
       same-mark s s′ k (reached-more (makes .own-adds .kept) (makes .given-adds .kept) (table-adds .kept))
-      (λ r. ⊎-elim (λ (e : key k ≡ m). absurd (makes .is-new (subst (λ (x : Term). x ∈ s .now .table) e h))) (λ o. o) (made-reached r))
+      (λ r.
+      ⊎-elim (λ (e : key k ≡ m). absurd (makes .is-new (subst (λ (x : Term). x ∈ s .now .table) e h))) (λ o. o)
+      (made-reached r))
 
 module _ {s s′ : State} (i : Sound s) (i′ : Sound s′) {t r : Token} (shows : Shows t s) where
   -- a data item is made
@@ -104,17 +112,19 @@ module _ {s s′ : State} (i : Sound s) (i′ : Sound s′) {t r : Token} (shows
       r .table ≡ appended (t .table) item-entry → r .links ≡ t .links → ShowsHands (r .hands) (s′ .now) → Shows r s′
   unfolding kind-for own-for held-for
   item-made n makes room eo rt rl hands =
-      changed-entered i i′ shows (item n) room (made-table i makes) item-entry (same-extends eo) (ap length (sym eo)) refl refl refl
-      data-no-seal (made-marks i makes) rt rl hands
+      changed-entered i i′ shows (item n) room (made-table i makes) item-entry (same-extends eo) (ap length (sym eo)) refl
+      refl refl data-no-seal (made-marks i makes) rt rl hands
 
   -- a key is made, generated or the caller's own
   pub key-made : (o : Origin) (own : Bool) → Makes s s′ (key (new-key (s .now))) → length (s .now .table) < most-terms →
       s′ .now .origins ≡ s .now .origins ++ o ∷ [] → own ≡ is-own (some o) → own ≡ mark s′ (new-key (s .now)) →
-      r .table ≡ appended (t .table) (key-entry (t .table) own) → r .links ≡ t .links → ShowsHands (r .hands) (s′ .now) → Shows r s′
+      r .table ≡ appended (t .table) (key-entry (t .table) own) → r .links ≡ t .links →
+      ShowsHands (r .hands) (s′ .now) → Shows r s′
   unfolding kind-for own-for held-for new-key
   key-made o own makes room eo is-own-key is-held rt rl hands =
       changed-entered i i′ shows (key (new-key (s .now))) room (made-table i makes) (key-entry (t .table) own)
       (snoc-extends (s .now .origins) o eo) (sym (ap length eo ∙ length-snoc (s .now .origins) o))
       (ap (λ (n : ℕ). Key (record { 0 = n })) (shows .keys-shown))
-      (is-own-key ∙ ap is-own (sym (ap (λ (l : List Origin). getElem? l (length (s .now .origins))) eo ∙ at-end (s .now .origins) o)))
+      (is-own-key
+      ∙ ap is-own (sym (ap (λ (l : List Origin). getElem? l (length (s .now .origins))) eo ∙ at-end (s .now .origins) o)))
       is-held (key-no-seal _) (made-marks i makes) rt rl hands

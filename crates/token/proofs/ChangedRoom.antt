@@ -1,5 +1,5 @@
--- The change of a done command can be made in a token that shows the state: there is room for what it appends, the numbers lie inside,
--- and a leak can be followed. Rests on ChangedCommands.
+-- The change of a done command can be made in a token that shows the state: there is room for what it appends, the numbers lie
+-- inside, and a leak can be followed. Rests on ChangedCommands.
 use Prim.Native.Nat.{ℕ}
 use mathlib.Core.Bool.{Bool}
 use Rattle.rules.specs.Templates.{Policy}

@@ -46,6 +46,7 @@ pub mod ChangedAnswers
 pub mod ChangedWorks
 pub mod ChangedGiven
 pub mod ChangedMade
+pub mod ChangedDone
 pub mod ChangedCommands
 pub mod Changed
 pub mod ChangedRoom

@@ -1,5 +1,5 @@
--- When the mark of a key stays: a key is marked exactly where following reaches it, so a mark stays where following reaches as far
--- before as after. Rests on the terms crate's Following.
+-- When the mark of a key stays: a key is marked exactly where following reaches it, so a mark stays where following reaches as
+-- far before as after. Rests on the terms crate's Following.
 use Prim.Native.Nat.{ℕ}
 use mathlib.Core.Path.{_≡_, refl, sym}
 use mathlib.Core.Bool.{Bool, true, false}
@@ -51,6 +51,7 @@ pub record Within (own given : List Term) (table : Table) (P : ℕ → Type 0) :
   pub given-within : (k : ℕ) → key k ∈ given → P k
   pub seals-within : (j k : ℕ) → seal k (key j) ∈ table → P k → P j
 
+-- every key reached is in the set
 pub reached-within : {own given : List Term} {table : Table} {P : ℕ → Type 0} {k : ℕ} → Within own given table P →
     Reached own given table k → P k
 reached-within w (own-key h) = w .own-within _ h

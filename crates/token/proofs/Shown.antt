@@ -49,7 +49,8 @@ links-unique {links} {links′} {entries} {n} a b = λ i. record {
     keys = linked-unique (a .by-key) (b .by-key)
 
     chained : Linked (λ i. bucket-chain (getD (links .codes) i 0)) (links′ .heads) (links′ .chain) n
-    chained = subst (λ (x : List ℕ). Linked (λ i. bucket-chain (getD x i 0)) (links′ .heads) (links′ .chain) n) (sym codes) (b .by-bucket)
+    chained =
+        subst (λ (x : List ℕ). Linked (λ i. bucket-chain (getD x i 0)) (links′ .heads) (links′ .chain) n) (sym codes) (b .by-bucket)
 
     buckets : (links .heads ≡ links′ .heads) × (links .chain ≡ links′ .chain)
     buckets = linked-unique (a .by-bucket) chained
@@ -101,6 +102,7 @@ dead-slot zero h = refl
 dead-slot (suc n) zero = refl
 dead-slot (suc n) (suc h) = dead-slot n h
 
+-- the blank links show no term
 blank-links : ShowsLinks (blank-token .links) (blank-token .table .entries) 0
 blank-links =
     record {
@@ -110,10 +112,12 @@ blank-links =
       by-bucket = linked-blank _;
     }
 
+-- every handle number of a fresh token is dead
 fresh-slot : (h : ℕ) → slot (fresh .now) h ≡ dead
 unfolding fresh slot
 fresh-slot h = dead-slot most-handles h
 
+-- the blank hands show that
 blank-hands : ShowsHands (blank-token .hands) (fresh .now)
 unfolding slot-for is-live
 blank-hands =

@@ -1,5 +1,5 @@
--- There are no more keys than terms, since every key is a term: a key's number fits where a term's number fits. Rests on the rules
--- crate's Sound.
+-- There are no more keys than terms, since every key is a term: a key's number fits where a term's number fits. Rests on the
+-- rules crate's Sound.
 use Prim.Native.Nat.{ℕ, zero, suc, _≤_, _<_}
 use native.Mathlib.Omega.{arith}
 use mathlib.Core.Path.{_≡_, refl, sym, ap, _∙_}
@@ -15,11 +15,13 @@ unfoldable without : {A : Type 0} {x : A} {l : List A} → x ∈ l → List A
 without (List·Memᴰ·head {xs = l} e) = l
 without (List·Memᴰ·tail {x = y} h) = y ∷ without h
 
+-- it is one shorter
 without-length : {A : Type 0} {x : A} {l : List A} (h : x ∈ l) → length l ≡ suc (length (without h))
 unfolding without
 without-length (List·Memᴰ·head e) = refl
 without-length (List·Memᴰ·tail h) = ap suc (without-length h)
 
+-- and has every other thing
 in-without : {A : Type 0} {x y : A} {l : List A} (h : x ∈ l) → y ∈ l → ¬ (y ≡ x) → y ∈ without h
 unfolding without
 in-without (List·Memᴰ·head e) (List·Memᴰ·head q) ne = absurd (ne (q ∙ sym e))

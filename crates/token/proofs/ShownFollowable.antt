@@ -1,5 +1,5 @@
--- Entries that show the terms of the next state and the marks of the state before can be followed from the key that leaks. Rests on
--- ShownLeak and ShownCounts.
+-- Entries that show the terms of the next state and the marks of the state before can be followed from the key that leaks. Rests
+-- on ShownLeak and ShownCounts.
 use Prim.Native.Nat.{ℕ, _≤_, _<_}
 use native.Mathlib.Omega.{arith}
 use mathlib.Core.Path.{_≡_, sym, ap, subst, _∙_}
@@ -39,7 +39,9 @@ module _ {s s′ : State} (sound : Sound s′) (room : length (s′ .now .table)
       (shown .terms .kinds i ∙ ap (kind-for (s′ .now .table)) past) (shown .marks .holds i ∙ ap (held-for s) past)
       (shown .terms .owns i ∙ ap (own-for (s′ .now .origins)) past)
 
-  seal-inside : (i : ℕ) (k : KeyNo) (q : TermNo) → kind-at (table .entries) i ≡ Seal k q → (k .0 < most-terms) × (q .0 < most-terms)
+  -- a seal's key and payload have numbers inside
+  seal-inside : (i : ℕ) (k : KeyNo) (q : TermNo) → kind-at (table .entries) i ≡ Seal k q →
+      (k .0 < most-terms) × (q .0 < most-terms)
   seal-inside i k q e =
       let r : SealRead (s′ .now .table) (getElem? (s′ .now .table) i) k q =
       seal-read (s′ .now .table) _ k q (sym (shown .terms .kinds i) ∙ e) in
@@ -49,6 +51,7 @@ module _ {s s′ : State} (sound : Sound s′) (room : length (s′ .now .table)
       at-below (s′ .now .table) (number-of (s′ .now .table) (r .inside)) (number-at (parts .1)) in
       (omega (arith, key-below sound (parts .0)), omega (arith, r .its-number))
 
+  -- the term that leaks is that key
   leaked-kind : kind-at (table .entries) p ≡ Key (record { 0 = leak .leaked })
   unfolding kind-for
   leaked-kind = shown .terms .kinds p ∙ ap (kind-for (s′ .now .table)) (leak .leaked-at)
@@ -62,7 +65,8 @@ module _ {s s′ : State} (sound : Sound s′) (room : length (s′ .now .table)
         few = omega (arith, shown .terms-count);
         blank-past = past-blank;
         keys-inside = λ i k e.
-            omega (arith, key-below sound (at-in (s′ .now .table) i (key-at sound room (shown .terms) (shown .marks) leak i k e)));
+            let there = at-in (s′ .now .table) i (key-at sound room (shown .terms) (shown .marks) leak i k e) in
+            omega (arith, key-below sound there);
         seals-inside = seal-inside;
         chained =
             subst (λ (n : ℕ). Linked (λ i. under-chain (kind-at (table .entries) i)) (links .newest) (links .older) n)

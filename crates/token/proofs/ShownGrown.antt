@@ -1,5 +1,5 @@
--- What entries and slots show is kept when the token's table and its origins only grow: a term keeps its number, a key its origin,
--- a live handle its slot. And one more entry stands beside one more term. Rests on the rules crate's Sound.
+-- What entries and slots show is kept when the token's table and its origins only grow: a term keeps its number, a key its
+-- origin, a live handle its slot. And one more entry stands beside one more term. Rests on the rules crate's Sound.
 use Prim.Native.Nat.{ℕ, zero, suc, _<_}
 use native.Mathlib.Decide.{ℕ-discrete}
 use mathlib.Core.Path.{_≡_, refl, sym, ap, _∙_}
@@ -22,7 +22,7 @@ use Rattle.token.specs.Shows.{blank-entry, is-own, slot-for}
 use Rattle.token.proofs.MarksKept.{mark}
 use Rattle.token.proofs.ShownParts.{kind-for, held-for, own-for, TermsShown, MarksShown}
 
--- the second has at each place what the first has there
+-- the first list extends the second: it has at each place what the second has there
 abbrev pub Extends : {A : Type 0} → (more less : List A) → Type 0
 Extends {A} more less = (i : ℕ) (x : A) → getElem? less i ≡ some x → getElem? more i ≡ some x
 
@@ -38,7 +38,8 @@ module _ {s s′ : State} (i : Sound s) (i′ : Sound s′) (grows : Grows (s .n
       i′ .shape .once (number-at (at-in (s′ .now .table) (number-of (s .now .table) m) old)) old
 
   -- and the kind of its entry
-  kind-kept : (n : ℕ) (x : Option Term) → getElem? (s .now .table) n ≡ x → kind-for (s .now .table) x ≡ kind-for (s′ .now .table) x
+  kind-kept : (n : ℕ) (x : Option Term) → getElem? (s .now .table) n ≡ x →
+      kind-for (s .now .table) x ≡ kind-for (s′ .now .table) x
   unfolding kind-for
   kind-kept n none e = refl
   kind-kept n (some (item m)) e = refl
@@ -48,7 +49,8 @@ module _ {s s′ : State} (i : Sound s) (i′ : Sound s′) (grows : Grows (s .n
       (sym (number-kept (parts-in (i .shape) (at-in (s .now .table) n e) .1)))
 
   -- a key of the table keeps its origin
-  own-kept : (n : ℕ) (x : Option Term) → getElem? (s .now .table) n ≡ x → own-for (s .now .origins) x ≡ own-for (s′ .now .origins) x
+  own-kept : (n : ℕ) (x : Option Term) → getElem? (s .now .table) n ≡ x →
+      own-for (s .now .origins) x ≡ own-for (s′ .now .origins) x
   unfolding own-for
   own-kept n none e = refl
   own-kept n (some (item m)) e = refl
@@ -75,6 +77,7 @@ module _ {s s′ : State} (i : Sound s) (i′ : Sound s′) (grows : Grows (s .n
       ap (λ (n : ℕ). record { key = record { 0 = k }; term = record { 0 = n }; flags = f })
       (sym (number-kept (i .live-key (there k f refl))))
 
+-- a term is held in both states, where its mark is the same
 held-kept : (s s′ : State) (terms : Table) → ((k : ℕ) → key k ∈ terms → mark s k ≡ mark s′ k) → (n : ℕ) (x : Option Term) →
     getElem? terms n ≡ x → held-for s x ≡ held-for s′ x
 unfolding held-for
@@ -109,6 +112,7 @@ module _ (entries : List Entry) (terms : Table) (m : Term) (e : Entry) (inside :
       other : ¬ (i ≡ length terms) → read (getD (set entries (length terms) e) i blank-entry) ≡ of (getElem? (terms ++ m ∷ []) i)
       other q = rw (getD-set-other, at-other) (old i)
 
+  -- one more entry beside one more term shows the terms
   pub terms-appended : {now : Now} → e .term ≡ kind-for (now .table) (some m) → e .marks .own ≡ own-for (now .origins) (some m) →
       TermsShown entries terms now → TermsShown (set entries (length terms) e) (terms ++ m ∷ []) now
   terms-appended {now} ek eo shown =
@@ -117,6 +121,7 @@ module _ (entries : List Entry) (terms : Table) (m : Term) (e : Entry) (inside :
         owns = read-appended (λ (x : Entry). x .marks .own) (own-for (now .origins)) eo (shown .owns);
       }
 
+  -- and the marks
   pub marks-appended : {s : State} → e .marks .held ≡ held-for s (some m) → MarksShown entries terms s →
       MarksShown (set entries (length terms) e) (terms ++ m ∷ []) s
   marks-appended {s} eh shown = record { holds = read-appended (λ (x : Entry). x .marks .held) (held-for s) eh (shown .holds) }

@@ -49,7 +49,8 @@ module _ {s s′ : State} (i : Sound s) (i′ : Sound s′) (grows : Grows (s .n
   unfolding slot
   hands-set {hands} {result} h x inside same made shown =
       record {
-        slots-length = ap length (made .slots-set) ∙ length-set (hands .slots) h (slot-for (s′ .now .table) x) ∙ shown .slots-length;
+        slots-length =
+            ap length (made .slots-set) ∙ length-set (hands .slots) h (slot-for (s′ .now .table) x) ∙ shown .slots-length;
         slots-shown = λ j l. ap (λ (y : List Slot). getD y j blank-slot) (made .slots-set) ∙ slots j l;
         words = made .live-set .words-again;
         live-shown = λ j l.

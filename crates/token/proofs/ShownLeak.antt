@@ -35,6 +35,7 @@ pub record Leaking (s s′ : State) (p : ℕ) : Type 0 where
   pub given-old : (k : ℕ) → key k ∈ s′ .past .given → Reaches s k ⊎ (k ≡ leaked)
   pub seals-old : (j k : ℕ) → seal k (key j) ∈ s′ .now .table → Reaches s k → Reaches s j ⊎ (j ≡ leaked)
 
+-- where no term is, no key is
 no-term : {k : ℕ} → ¬ (none ≡ some (key k))
 no-term e = let z : _≡_ {A = ℕ} 0 1 = cc in omega arith
 
@@ -52,6 +53,7 @@ pub record SealRead (table : Table) (x : Option Term) (k : KeyNo) (p : TermNo) :
   pub is-seal : x ≡ some (seal (k .0) inside)
   pub its-number : number-of table inside ≡ p .0
 
+-- and its number is that of the payload
 pub seal-read : (table : Table) (x : Option Term) (k : KeyNo) (p : TermNo) → kind-for table x ≡ Seal k p → SealRead table x k p
 unfolding kind-for
 seal-read table none k p e = absurd (let z : _≡_ {A = ℕ} 0 1 = cc in omega arith)
@@ -66,6 +68,7 @@ seal-read table (some (seal j m)) k p e =
 module _ {s s′ : State} (sound : Sound s′) (room : length (s′ .now .table) ≤ most-terms) {entries : List Entry} {p : ℕ}
     (terms : TermsShown entries (s′ .now .table) (s′ .now)) (marks : MarksShown entries (s′ .now .table) s)
     (leak : Leaking s s′ p) where
+  -- an entry of a key is beside that key
   pub key-at : (q : ℕ) (k : KeyNo) → kind-at entries q ≡ Key k → getElem? (s′ .now .table) q ≡ some (key (k .0))
   key-at q k e = key-read (s′ .now .table) (getElem? (s′ .now .table) q) k (sym (terms .kinds q) ∙ e)
 
@@ -100,6 +103,7 @@ module _ {s s′ : State} (sound : Sound s′) (room : length (s′ .now .table)
         inner-kind = terms .kinds o ∙ ap (kind-for (s′ .now .table)) at-o;
       }
 
+  -- its mark is the key's
   pub mark-at : (q k : ℕ) → getElem? (s′ .now .table) q ≡ some (key k) → held-at entries q ≡ mark s k
   unfolding held-for
   mark-at q k e = marks .holds q ∙ ap (held-for s) e
@@ -150,7 +154,8 @@ module _ {s s′ : State} (sound : Sound s′) (room : length (s′ .now .table)
         the-one : (q : ℕ) → q ≡ p → held-at result q ≡ true
         the-one q e = subst (λ (n : ℕ). held-at result n ≡ true) (sym e) (followed .leak-held p the-leak)
 
-        old-or : (q k : ℕ) → getElem? (s′ .now .table) q ≡ some (key k) → Reaches s k ⊎ (k ≡ leak .leaked) → held-at result q ≡ true
+        old-or : (q k : ℕ) → getElem? (s′ .now .table) q ≡ some (key k) → Reaches s k ⊎ (k ≡ leak .leaked) →
+            held-at result q ≡ true
         old-or q k e (inl r) = old q k e r
         old-or q k e (inr same) =
             the-one q (sound .shape .once e (leak .leaked-at ∙ ap (λ (n : ℕ). some (key n)) (sym same)))
@@ -176,6 +181,7 @@ module _ {s s′ : State} (sound : Sound s′) (room : length (s′ .now .table)
     leak-key the-leak = (leak .leaked, leak .leaked-at)
     leak-key (leads {p = o} l x) = (x .inner .0, key-at o (x .inner) (x .inner-kind))
 
+    -- each mark is that of the next state
     held-followed : (q : ℕ) (x : Option Term) → getElem? (s′ .now .table) q ≡ x → held-at result q ≡ held-for s′ x
     unfolding held-for
     held-followed q none e =

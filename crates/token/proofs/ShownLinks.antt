@@ -1,5 +1,5 @@
--- What the links show is kept: where the kinds of the entries stay, where an entry is appended that is no seal, and where a seal is
--- appended and put into its two chains. Rests on ChainsKept.
+-- What the links show is kept: where the kinds of the entries stay, where an entry is appended that is no seal, and where a seal
+-- is appended and put into its two chains. Rests on ChainsKept.
 use Prim.Native.Nat.{ℕ, suc, _<_, _%_}
 use native.Mathlib.Omega.{arith}
 use native.Mathlib.Decide.{ℕ-discrete}
@@ -36,16 +36,19 @@ pub record NoSeal (kind : Kind) : Type 0 where
   pub no-code : code-of kind ≡ 0
   pub no-chain : under-chain kind ≡ 0
 
+-- data is none
 pub data-no-seal : NoSeal Data
 unfolding code-of under-chain
 data-no-seal = record { no-code = refl; no-chain = refl }
 
+-- a key is none
 pub key-no-seal : (k : KeyNo) → NoSeal (Key k)
 unfolding code-of under-chain
 key-no-seal k = record { no-code = refl; no-chain = refl }
 
 module _ {links : Links} {entries : List Entry} {n : ℕ} (inside : n < most-terms) (whole : length entries ≡ most-terms)
     (shown : ShowsLinks links entries n) where
+  -- what is read of entries of which one was stored
   here : (e : Entry) → getD (set entries n e) n blank-entry ≡ e
   here e = getD-set-same entries n e blank-entry (omega arith)
 
@@ -65,21 +68,27 @@ module _ {links : Links} {entries : List Entry} {n : ℕ} (inside : n < most-ter
         by-bucket = linked-none (ap bucket-chain (shown .codes-shown n inside ∙ was .no-code)) (shown .by-bucket);
       }
     where
-      same : (f : Kind → ℕ) → f (kind-at entries n) ≡ 0 → f (e .term) ≡ 0 → (i : ℕ) → f (kind-at (set entries n e) i) ≡ f (kind-at entries i)
+      same : (f : Kind → ℕ) → f (kind-at entries n) ≡ 0 → f (e .term) ≡ 0 → (i : ℕ) →
+          f (kind-at (set entries n e) i) ≡ f (kind-at entries i)
       same f a b i =
           by-cases (ℕ-discrete i n)
           (λ (q : i ≡ n). rw q (ap (λ (x : Entry). f (x .term)) (here e) ∙ b ∙ sym a))
           (λ d. ap (λ (x : Entry). f (x .term)) (other e i d))
 
   -- a seal is appended, and put into its chains
-  pub links-more : (k : KeyNo) (p : TermNo) → k .0 < most-terms → ShowsLinks (linked links n (k .0) (p .0)) (set entries n (seal-entry k p)) (suc n)
+  pub links-more : (k : KeyNo) (p : TermNo) → k .0 < most-terms →
+      ShowsLinks (linked links n (k .0) (p .0)) (set entries n (seal-entry k p)) (suc n)
   unfolding code-of under-chain bucket-chain
   links-more k p small =
       record {
         codes-length = length-set (links .codes) n (seal-code (k .0) (p .0)) ∙ shown .codes-length;
         codes-shown = codes;
-        by-key = linked-more (k .0) (ap (λ (x : Entry). under-chain (x .term)) (here e)) inside small (linked-same chains (shown .by-key));
-        by-bucket = linked-more (seal-code (k .0) (p .0) % 1024) (ap bucket-chain code-here) inside (omega arith) (linked-same buckets (shown .by-bucket));
+        by-key =
+            linked-more (k .0) (ap (λ (x : Entry). under-chain (x .term)) (here e)) inside small
+            (linked-same chains (shown .by-key));
+        by-bucket =
+            linked-more (seal-code (k .0) (p .0) % 1024) (ap bucket-chain code-here) inside (omega arith)
+            (linked-same buckets (shown .by-bucket));
       }
     where
       e : Entry

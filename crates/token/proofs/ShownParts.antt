@@ -52,6 +52,7 @@ entry-parts s (some (item n)) = refl
 entry-parts s (some (key k)) = refl
 entry-parts s (some (seal k m)) = refl
 
+-- whether number i is the caller's own
 abbrev pub own-at : List Entry → ℕ → Bool
 own-at entries i = getD entries i blank-entry .marks .own
 
@@ -80,8 +81,10 @@ module _ {t : Token} {s : State} (shows : Shows t s) where
       (λ e.
       let past : most-terms ≤ i = ltb-false i most-terms e in
       let none-there : getElem? (s .now .table) i ≡ none = none-past (s .now .table) i (omega (arith, shows .room)) in
-      List·getD-eq-default (t .table .entries) blank-entry (omega (arith, shows .entries-length)) ∙ sym (ap (entry-for s) none-there))
+      List·getD-eq-default (t .table .entries) blank-entry (omega (arith, shows .entries-length))
+      ∙ sym (ap (entry-for s) none-there))
 
+  -- each entry's three parts
   parts : (i : ℕ) → getD (t .table .entries) i blank-entry ≡
       entry (kind-for (s .now .table) (getElem? (s .now .table) i)) (held-for s (getElem? (s .now .table) i))
       (own-for (s .now .origins) (getElem? (s .now .table) i))
@@ -101,7 +104,8 @@ module _ {t : Token} {s : State} (shows : Shows t s) where
   marks-of = record { holds = λ i. ap (λ (e : Entry). e .marks .held) (parts i) }
 
 -- an entry is known by its three parts
-pub entry-from : (e : Entry) (kind : Kind) (h o : Bool) → e .term ≡ kind → e .marks .held ≡ h → e .marks .own ≡ o → e ≡ entry kind h o
+pub entry-from : (e : Entry) (kind : Kind) (h o : Bool) → e .term ≡ kind → e .marks .held ≡ h → e .marks .own ≡ o →
+    e ≡ entry kind h o
 entry-from e kind h o ek eh eo = λ i. record { term = ek i; marks = record { held = eh i; own = eo i } }
 
 -- the table of a token shows the terms of a token's state, and which of them are held in a state

@@ -1,5 +1,5 @@
--- What a token's table shows, change by change: the state's table stays, a term is entered, the marks are those of another state, a
--- leak is followed. Rests on ShownGrown and ShownLeak.
+-- What a token's table shows, change by change: the state's table stays, a term is entered, the marks are those of another state,
+-- a leak is followed. Rests on ShownGrown and ShownLeak.
 use Prim.Native.Nat.{ℕ, suc, _≤_, _<_}
 use native.Mathlib.Omega.{arith}
 use mathlib.Core.Path.{_≡_, sym, ap, subst, _∙_}
@@ -24,10 +24,11 @@ use Rattle.token.proofs.ShownLeak.{Leaking, terms-followed, marks-follo
 pub length-snoc : {A : Type 0} (l : List A) (x : A) → length (l ++ x ∷ []) ≡ suc (length l)
 length-snoc l x = omega (arith, length-append l (x ∷ []))
 
--- an equal list extends the list, and one with something behind it
+-- an equal list extends the list
 pub same-extends : {A : Type 0} {more less : List A} → more ≡ less → Extends more less
 same-extends {A} e i x at = subst (λ (l : List A). getElem? l i ≡ some x) (sym e) at
 
+-- and so does the list with something behind it
 pub snoc-extends : {A : Type 0} {more : List A} (less : List A) (y : A) → more ≡ less ++ y ∷ [] → Extends more less
 snoc-extends {A} less y e i x at = subst (λ (l : List A). getElem? l i ≡ some x) (sym e) (at-append less (y ∷ []) i at)
 

@@ -14,7 +14,7 @@ use Rattle.terms.proofs.Lists.{bool-cases}
 use Rattle.token.specs.declared.Token.{Token}
 use Rattle.token.specs.declared.Called.{Called}
 use Rattle.token.specs.Shows.{Shows}
-use Rattle.token.specs.Direct.{not-a-call, Refused1, Stepped, CallAnswer, Answered}
+use Rattle.token.specs.Direct.{not-a-call, Refused1, SteppedBy, CallAnswer, Answered}
 use Rattle.token.proofs.Going.{reachable-next}
 
 -- a call: a command number and the bytes of a body

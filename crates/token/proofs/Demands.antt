@@ -22,7 +22,7 @@ use Rattle.token.specs.declared.Token.{Token}
 use Rattle.token.specs.declared.Called.{Called}
 use Rattle.token.specs.Shows.{Shows}
 use Rattle.token.specs.Known.{blank-token, marked-keys}
-use Rattle.token.specs.Direct.{not-a-call, ComesFrom, Reached, Refused1, Stepped, CallAnswer, Answered}
+use Rattle.token.specs.Direct.{not-a-call, ComesFrom, Reached, Refused1, SteppedBy, CallAnswer, Answered}
 use Rattle.token.proofs.Shown.{shows-unique, blank-shows}
 use Rattle.token.proofs.CallsRun.{Direct, Calls, CallsRun, calls-run, commands-of}
 use Rattle.token.proofs.KnownShown.{known-shown}

@@ -12,7 +12,7 @@ use Rattle.rules.proofs.Prefixes.{run-append}
 use Rattle.token.specs.declared.Token.{Token}
 use Rattle.token.specs.declared.Called.{Called}
 use Rattle.token.specs.Shows.{Shows}
-use Rattle.token.specs.Direct.{not-a-call, ComesFrom, Reached, Refused1, Stepped, CallAnswer, Answered}
+use Rattle.token.specs.Direct.{not-a-call, ComesFrom, Reached, Refused1, SteppedBy, CallAnswer, Answered}
 
 -- one more command from a reachable state leads to a reachable state
 pub reachable-next : {p : Policy} {s next : State} {c : Command} {a : Answer} → Reachable p s → Step p s c a next → Reachable p next

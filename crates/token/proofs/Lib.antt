@@ -8,6 +8,9 @@ pub mod ChainsLast
 pub mod ChainsKept
 pub mod ChainsFound
 pub mod Codes
+pub mod TableRules
+pub mod Answers
+pub mod Parsing
 pub mod ChangeFor
 pub mod SeenParts
 pub mod Seen
@@ -50,6 +53,11 @@ pub mod ChangedDone
 pub mod ChangedCommands
 pub mod Changed
 pub mod ChangedRoom
+pub mod ApiLook
+pub mod ApiApply
+pub mod ApiKnown
+pub mod StepShown
+pub mod CallShown
 pub mod Going
 pub mod CallsRun
 pub mod KnownShown

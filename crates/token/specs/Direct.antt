@@ -11,7 +11,7 @@ use Rattle.rules.specs.Templates.{Policy}
 use Rattle.rules.specs.Commands.{Command, GENERATE, WRAP, UNWRAP, ENCRYPT, DECRYPT, CORRUPT, DESTROY, OWN-KEY, OWN-DATA, SEAL}
 use Rattle.rules.specs.State.{State}
 use Rattle.rules.specs.Runs.{Answer, Step, Reachable}
-use Rattle.sheets.specs.Sheets.{policy-number}
+use Rattle.sheets.specs.Sheets.{policy-number, Holdable}
 use Rattle.sheets.specs.Faults.{known-number, body-length}
 use Rattle.sheets.specs.Reading.{read-command}
 use Rattle.token.specs.declared.Command.{Command as Stored}
@@ -60,20 +60,33 @@ pub record Reached (token : Token) (policy : ℕ) : Type 0 where
   pub state : State
   pub comes : ComesFrom token policy under state
 
+-- a command of the code under a policy of document 01, on a token that comes from a fresh one
+pub record StepAsks (token : Token) (policy : ℕ) (command : Stored) : Type 0 where
+  pub reached : Reached token policy
+  pub low : policy ≤ 2
+  pub the-command : Command
+  pub holdable : Holdable the-command
+  pub is-command : command ≡ commandOf the-command
+
+-- what is given back where a command is stepped: the rules' answer and value, and a token that shows the rules' next state
+pub record SteppedBy (p : Policy) (s : State) (c : Command) (r : Called) : Type 0 where
+  pub next : State
+  pub step : Step p s c (record { answer = r .answer; value = r .value }) next
+  pub shows-next : Shows (r .token) next
+
+abbrev pub Stepped : (token : Token) (policy : ℕ) (command : Stored) (r : Called) → Type 0
+Stepped token policy command r =
+    (p : Policy) (s : State) (c : Command) → ComesFrom token policy p s → Holdable c → command ≡ commandOf c → SteppedBy p s c r
+
 -- what is given back, where the call is none, and where it is one
 pub record Refused1 (token : Token) (r : Called) : Type 0 where
   pub answers-1 : r .answer ≡ 1
   pub no-value : r .value ≡ 0
   pub same-token : r .token ≡ token
 
-pub record Stepped (p : Policy) (s : State) (number : ℕ) (body : List ℕ) (r : Called) : Type 0 where
-  pub next : State
-  pub step : Step p s (read-command number body) (record { answer = r .answer; value = r .value }) next
-  pub shows-next : Shows (r .token) next
-
 abbrev pub CallAnswer : (not-a-call : Bool) → Token → Policy → State → (number : ℕ) → (body : List ℕ) → Called → Type 0
 CallAnswer true token p s number body r = Refused1 token r
-CallAnswer false token p s number body r = Stepped p s number body r
+CallAnswer false token p s number body r = SteppedBy p s (read-command number body) r
 
 -- the whole promise: of every state that the token comes from
 abbrev pub Answered : Token → (policy number : ℕ) → (body : List ℕ) → Called → Type 0

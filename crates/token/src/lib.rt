@@ -1,4 +1,19 @@
 // The symbolic token: its parts by value, and the direct call. What each part shows of document 01's state is said in specs/Shows.antt.
+mod apply;
+mod decide;
+mod find;
+pub mod known;
+mod leaks;
+mod live;
+mod look;
+mod parse;
+mod tables;
+
+ghost use Rattle.token.specs.Direct.{Reached, Answered, StepAsks, Stepped};
+use apply::apply;
+use decide::decide;
+use look::look;
+use parse::parse;
 
 // Handle numbers, key numbers and term numbers are three separate counts.
 pub struct HandleNo(pub u8);
@@ -149,4 +164,66 @@ pub struct Called {
     pub token: Token,
     pub answer: u8,
     pub value: u16,
+}
+
+// The list of known keys in a buffer: so many were written, or the buffer is too short.
+pub enum Listed {
+    Keys(u16),
+    Short,
+}
+
+// Where a key comes from.
+pub enum Origin {
+    Generated,
+    Own,
+    NoKey,
+}
+
+// One command on a token, under a policy of document 01.
+fn step(token: Token, policy: u8, command: Command) -> Called
+    requires { ⌜ StepAsks token policy command ⌝ }
+    ensures { λ r. ⌜ Stepped token policy command r ⌝ }
+{
+    let table = token.table;
+    let links = token.links;
+    let hands = token.hands;
+    let seen = look(
+        table,
+        hands,
+        &links.heads,
+        &links.chain,
+        &links.codes,
+        command,
+    );
+    let decision = decide(policy, command, seen);
+    let change = decision.change;
+    let next = apply(token, change);
+    Called {
+        token: next,
+        answer: decision.answer,
+        value: decision.value,
+    }
+}
+
+// The direct call: one command by its number and its body's bytes.
+pub fn call(token: Token, policy: u8, number: u8, body: &[u8]) -> Called
+    requires { ⌜ Reached token policy ⌝ }
+    ensures { λ r. ⌜ Answered token policy number (now (body .entry)) r ⌝ }
+{
+    if 2 < policy {
+        return Called {
+            token,
+            answer: 1,
+            value: 0,
+        };
+    }
+    let parsed = parse(number, body);
+    let Parsed::Known(command) = parsed else {
+        return Called {
+            token,
+            answer: 1,
+            value: 0,
+        };
+    };
+    step(token, policy, command)
 }

@@ -1,0 +1,180 @@
+// Makes a change in the token.
+ghost use mathlib.Core.Path.{_≡_};
+ghost use mathlib.Core.Bool.{true, false};
+ghost use Prim.Native.Nat.{_<_};
+ghost use lib.ListN.{length};
+ghost use Rattle.rules.specs.State.{most-handles, most-terms};
+ghost use Rattle.token.specs.Shows.{blank-slot, entry as entryWith};
+ghost use Rattle.token.specs.declared.Change.the-variants.{NewSeal};
+ghost use Rattle.token.specs.Applied.{SlotSet, appended, linked, SealRoom, Applicable, Applied};
+use crate::Change;
+use crate::Entry;
+use crate::HandleNo;
+use crate::Hands;
+use crate::KeyNo;
+use crate::Links;
+use crate::Marks;
+use crate::Slot;
+use crate::Table;
+use crate::Term;
+use crate::TermNo;
+use crate::Token;
+use crate::decide::key_of;
+use crate::leaks::follow;
+use crate::live::set_dead;
+use crate::live::set_live;
+
+fn bound(hands: Hands, h: HandleNo, slot: Slot) -> Hands
+    requires { ⌜ length (hands .slots) ≡ most-handles ⌝ }
+    ensures { λ r. ⌜ SlotSet hands (h .0) slot true r ⌝ }
+{
+    let mut next = hands;
+    next.slots[h.0 as usize] = slot;
+    let live = next.live;
+    next.live = set_live(live, h);
+    next
+}
+
+fn released(hands: Hands, h: HandleNo) -> Hands
+    requires { ⌜ length (hands .slots) ≡ most-handles ⌝ }
+    ensures { λ r. ⌜ SlotSet hands (h .0) blank-slot false r ⌝ }
+{
+    let mut next = hands;
+    next.slots[h.0 as usize] = Slot {
+        key: KeyNo(0),
+        term: TermNo(0),
+        flags: 0,
+    };
+    let live = next.live;
+    next.live = set_dead(live, h);
+    next
+}
+
+fn append(table: Table, entry: Entry) -> Table
+    requires { ⌜ table .terms < most-terms ⌝ }
+    requires { ⌜ table .keys < most-terms ⌝ }
+    requires { ⌜ length (table .entries) ≡ most-terms ⌝ }
+    ensures { λ r. ⌜ r ≡ appended table entry ⌝ }
+{
+    let mut next = table;
+    let at = next.terms;
+    next.entries[at as usize] = entry;
+    next.terms = at + 1;
+    let term = entry.term;
+    match term {
+        Term::Data => next,
+        Term::Key(k) => {
+            next.keys += 1;
+            next
+        }
+        Term::Seal(k, p) => next,
+    }
+}
+
+fn link(links: Links, i: u16, k: KeyNo, p: TermNo) -> Links
+    requires { ⌜ i < most-terms ⌝ }
+    requires { ⌜ k .0 < most-terms ⌝ }
+    requires { ⌜ p .0 < most-terms ⌝ }
+    ensures { λ r. ⌜ r ≡ linked links i (k .0) (p .0) ⌝ }
+{
+    let mut next = links;
+    let at = i as usize;
+    let over = k.0 as usize;
+    let code = (k.0 as u32) * 1024 + (p.0 as u32) + 1;
+    let bucket = (code % 1024) as usize;
+    next.older[at] = next.newest[over];
+    next.newest[over] = i + 1;
+    next.chain[at] = next.heads[bucket];
+    next.heads[bucket] = i + 1;
+    next.codes[at] = code;
+    next
+}
+
+fn entry(term: Term, held: bool, own: bool) -> Entry
+    ensures { λ r. ⌜ r ≡ entryWith term held own ⌝ }
+{
+    Entry {
+        term,
+        marks: Marks { held, own },
+    }
+}
+
+// A seal is appended, put into its chains, and its leak followed where it leaks.
+fn append_seal(token: Token, k: KeyNo, p: TermNo, leaks: bool) -> Token
+    requires { ⌜ SealRoom token (k .0) (p .0) leaks ⌝ }
+    ensures { λ r. ⌜ Applied token (NewSeal k p leaks) r ⌝ }
+{
+    let before = token.table;
+    let ways = token.links;
+    let hands = token.hands;
+    let links = link(ways, before.terms, k, p);
+    let table = append(before, entry(Term::Seal(k, p), true, false));
+    if !leaks {
+        return Token {
+            table,
+            links,
+            hands,
+        };
+    }
+    let inner = table.entries[p.0 as usize];
+    let followed = follow(table, &links.newest, &links.older, p, key_of(inner));
+    Token {
+        table: followed,
+        links,
+        hands,
+    }
+}
+
+pub fn apply(token: Token, change: Change) -> Token
+    requires { ⌜ Applicable token change ⌝ }
+    ensures { λ r. ⌜ Applied token change r ⌝ }
+{
+    let table = token.table;
+    let links = token.links;
+    let hands = token.hands;
+    let key = Term::Key(KeyNo(table.keys));
+    match change {
+        Change::Nothing => token,
+        Change::Bind(h, slot) => Token {
+            table,
+            links,
+            hands: bound(hands, h, slot),
+        },
+        Change::Release(h) => Token {
+            table,
+            links,
+            hands: released(hands, h),
+        },
+        Change::NewKey(h, flags) => {
+            let slot = Slot {
+                key: KeyNo(table.keys),
+                term: TermNo(table.terms),
+                flags,
+            };
+            Token {
+                table: append(table, entry(key, false, false)),
+                links,
+                hands: bound(hands, h, slot),
+            }
+        }
+        Change::OwnKey => Token {
+            table: append(table, entry(key, true, true)),
+            links,
+            hands,
+        },
+        Change::OwnData => Token {
+            table: append(table, entry(Term::Data, true, true)),
+            links,
+            hands,
+        },
+        Change::NewSeal(k, p, leaks) => append_seal(token, k, p, leaks),
+        Change::Know(p) => {
+            let known = table.entries[p.0 as usize];
+            Token {
+                table: follow(table, &links.newest, &links.older, p, key_of(known)),
+                links,
+                hands,
+            }
+        }
+    }
+}

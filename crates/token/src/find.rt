@@ -1,0 +1,29 @@
+// Finding the equal of a seal by its code, through the chain of its bucket.
+ghost use mathlib.Core.Path.{_≡_};
+ghost use Prim.Native.Nat.{_<_};
+ghost use Rattle.token.specs.Views.{Findable, equalIn};
+use crate::Equal;
+use crate::TermNo;
+
+// The number of the seal with this code, where there is one.
+pub fn find<'a>(
+    heads: &'a [u16; 1024],
+    chain: &'a [u16; 1024],
+    codes: &'a [u32; 1024],
+    code: u32,
+) -> Equal
+    requires { ⌜ Findable (now heads) (now chain) (now codes) ⌝ }
+    requires { ⌜ 0 < code ⌝ }
+    ensures { λ r. ⌜ r ≡ equalIn (now (codes .entry)) code ⌝ }
+{
+    let bucket = (code % 1024) as usize;
+    let mut link = heads[bucket];
+    while link != 0 {
+        let i = (link - 1) as usize;
+        if codes[i] == code {
+            return Equal::At(TermNo(link - 1));
+        }
+        link = chain[i];
+    }
+    Equal::New
+}

@@ -6,22 +6,23 @@ use mathlib.Core.List.{List}
 use native.Mathlib.Omega.{arith}
 use lib.Dec.{ltb}
 use lib.ListN.{getD}
-use Rattle.token.specs.declared.TermNo.{TermNo}
-use Rattle.token.specs.declared.Entry.{Entry}
-use Rattle.token.specs.declared.Slot.{Slot}
+use Rattle.deciding.specs.declared.TermNo.{TermNo}
+use Rattle.deciding.specs.declared.Entry.{Entry}
+use Rattle.deciding.specs.declared.Slot.{Slot}
 use Rattle.token.specs.declared.Table.{Table}
 use Rattle.token.specs.declared.Hands.{Hands}
 use Rattle.token.specs.declared.Names.{Names}
-use Rattle.token.specs.declared.Handle.{Handle}
-use Rattle.token.specs.declared.Lookup.{Lookup}
-use Rattle.token.specs.declared.Equal.{Equal}
-use Rattle.token.specs.declared.Free.{Free}
-use Rattle.token.specs.declared.View.{View}
-use Rattle.token.specs.declared.Command.{Command}
-use Rattle.token.specs.declared.Command.the-variants.{Generate, Wrap, Unwrap, Encrypt, Decrypt, Corrupt, Destroy, OwnKey, OwnData, Seal}
+use Rattle.deciding.specs.declared.Handle.{Handle}
+use Rattle.deciding.specs.declared.Lookup.{Lookup}
+use Rattle.deciding.specs.declared.Equal.{Equal}
+use Rattle.deciding.specs.declared.Free.{Free}
+use Rattle.deciding.specs.declared.View.{View}
+use Rattle.deciding.specs.declared.Command.{Command}
+use Rattle.deciding.specs.declared.Command.the-variants.{Generate, Wrap, Unwrap, Encrypt, Decrypt, Corrupt, Destroy}
+use Rattle.deciding.specs.declared.Command.the-variants.{OwnKey, OwnData, Seal}
 use Rattle.token.specs.Live.{bit, free-in}
 use Rattle.token.specs.Shows.{blank-entry, blank-slot}
-use Rattle.token.specs.Decisions.{payloadNo}
+use Rattle.deciding.specs.Decisions.{payloadNo}
 use Rattle.token.specs.Views.{namesOf, inside, handleIn, lookupIn, aimOf, equalIn, viewOf}
 
 -- a seal's code is above 0
@@ -53,7 +54,8 @@ pub view-seen : (table : Table) (hands : Hands) (codes : List ℕ) (c : Command)
     → under ≡ inside (getD (hands .slots) (n .b .0) blank-slot .term .0)
     → {code : ℕ}
     → code
-    ≡ aimOf c (getD (hands .slots) (n .a .0) blank-slot) (getD (hands .slots) (n .b .0) blank-slot) (getD (table .entries) at blank-entry)
+    ≡ aimOf c (getD (hands .slots) (n .a .0) blank-slot) (getD (hands .slots) (n .b .0) blank-slot)
+    (getD (table .entries) at blank-entry)
     → {equal : Equal}
     → equal ≡ equalIn codes code
     → {is-a is-b : Bool} {a b : Handle}

@@ -19,9 +19,9 @@ use Rattle.sheets.specs.Sheets.{Holdable}
 use Rattle.sheets.specs.Faults.{known-number, body-length}
 use Rattle.sheets.specs.Reading.{read-command}
 use Rattle.sheets.proofs.Bodies.{stated}
-use Rattle.token.specs.declared.Command.{Command as Stored}
-use Rattle.token.specs.declared.Parsed.{Parsed}
-use Rattle.token.specs.declared.Parsed.the-variants.{Known, Unknown}
+use Rattle.deciding.specs.declared.Command.{Command as Stored}
+use Rattle.deciding.specs.declared.Parsed.{Parsed}
+use Rattle.deciding.specs.declared.Parsed.the-variants.{Known, Unknown}
 use Rattle.token.specs.declared.Token.{Token}
 use Rattle.token.specs.declared.Called.{Called}
 use Rattle.token.specs.Direct.{commandOf, parsedIf, no-command, parsed, not-a-call, Reached, ComesFrom, StepAsks, Stepped, CallAnswer, Answered}

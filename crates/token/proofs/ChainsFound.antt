@@ -11,8 +11,8 @@ use lib.Dec.{eqb, ltb}
 use lib.ListN.{getD}
 use Rattle.rules.specs.State.{most-terms}
 use Rattle.terms.proofs.Lists.{bool-cases}
-use Rattle.token.specs.declared.Equal.{Equal}
-use Rattle.token.specs.declared.Equal.the-variants.{At, New}
+use Rattle.deciding.specs.declared.Equal.{Equal}
+use Rattle.deciding.specs.declared.Equal.the-variants.{At, New}
 use Rattle.token.specs.Chains.{in-chain, last, next-in}
 use Rattle.token.specs.Shows.{bucket-chain}
 use Rattle.token.specs.Views.{Findable, equalIn}

@@ -9,8 +9,8 @@ use Rattle.rules.specs.Commands.{Command, GENERATE, WRAP, UNWRAP, ENCRYPT, DECR
 use Rattle.rules.specs.State.{State, slot, key-of, term-at, is-key, key-number, payload, new-handle}
 use Rattle.rules.specs.Changes.{answers, after}
 use Rattle.rules.specs.Runs.{number-in}
-use Rattle.token.specs.declared.Change.{Change}
-use Rattle.token.specs.declared.Change.the-variants.{Nothing, Bind, Release, NewKey, OwnKey, OwnData, NewSeal, Know}
+use Rattle.deciding.specs.declared.Change.{Change}
+use Rattle.deciding.specs.declared.Change.the-variants.{Nothing, Bind, Release, NewKey, OwnKey, OwnData, NewSeal, Know}
 
 -- the caller holds the term
 unfoldable pub held-in : State → Term → Bool

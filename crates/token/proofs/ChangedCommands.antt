@@ -22,7 +22,7 @@ use Rattle.rules.proofs.NewHandle.{new-handle-below}
 use Rattle.rules.proofs.ShapeKept.{parts-in}
 use Rattle.rules.proofs.Sound.{Sound}
 use Rattle.rules.proofs.SoundKept.{sound-kept, live-in}
-use Rattle.token.specs.declared.Slot.{Slot}
+use Rattle.deciding.specs.declared.Slot.{Slot}
 use Rattle.token.specs.declared.Hands.{Hands}
 use Rattle.token.specs.declared.Token.{Token}
 use Rattle.token.specs.Shows.{Shows, ShowsHands, slot-for, is-own}

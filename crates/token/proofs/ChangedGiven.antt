@@ -15,7 +15,7 @@ use Rattle.rules.proofs.Named.{both, key-term}
 use Rattle.rules.proofs.Sound.{Sound}
 use Rattle.token.specs.declared.Hands.{Hands}
 use Rattle.token.specs.declared.Token.{Token}
-use Rattle.token.specs.declared.Change.the-variants.{Nothing, NewSeal, Know}
+use Rattle.deciding.specs.declared.Change.the-variants.{Nothing, NewSeal, Know}
 use Rattle.token.specs.Shows.{Shows, ShowsLinks, ShowsHands}
 use Rattle.token.specs.Applied.{Applied}
 use Rattle.token.proofs.ChangeFor.{held-in, seal-change, gift-change}

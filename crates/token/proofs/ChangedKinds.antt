@@ -11,8 +11,8 @@ use Rattle.terms.specs.Lists.{_∈_}
 use Rattle.terms.specs.Terms.{Term, key, seal, number-of}
 use Rattle.rules.specs.State.{State, most-terms}
 use Rattle.rules.proofs.Sound.{Sound}
-use Rattle.token.specs.declared.Term.the-variants.{Data, Seal}
-use Rattle.token.specs.declared.Entry.{Entry}
+use Rattle.deciding.specs.declared.Term.the-variants.{Data, Seal}
+use Rattle.deciding.specs.declared.Entry.{Entry}
 use Rattle.token.specs.declared.Links.{Links}
 use Rattle.token.specs.declared.Table.{Table as Stored}
 use Rattle.token.specs.declared.Token.{Token}

@@ -16,7 +16,7 @@ use Rattle.rules.specs.State.{State, Origin, new-key, most-terms}
 use Rattle.rules.proofs.Judging.{reached-in-table}
 use Rattle.rules.proofs.ShapeKept.{parts-in}
 use Rattle.rules.proofs.Sound.{Sound}
-use Rattle.token.specs.declared.Term.the-variants.{Key}
+use Rattle.deciding.specs.declared.Term.the-variants.{Key}
 use Rattle.token.specs.declared.Token.{Token}
 use Rattle.token.specs.Shows.{Shows, ShowsHands, is-own}
 use Rattle.token.specs.Applied.{appended, key-entry, item-entry}

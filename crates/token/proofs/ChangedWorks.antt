@@ -6,7 +6,7 @@ use lib.ListN.{length}
 use Rattle.rules.specs.State.{State, most-terms, most-handles}
 use Rattle.rules.proofs.Sound.{Sound}
 use Rattle.token.specs.declared.Token.{Token}
-use Rattle.token.specs.declared.Change.{Change}
+use Rattle.deciding.specs.declared.Change.{Change}
 use Rattle.token.specs.Shows.{Shows}
 use Rattle.token.specs.Applied.{Applied, Applicable, Room, HandRoom}
 use Rattle.token.proofs.ShownCounts.{few-keys}

@@ -9,13 +9,13 @@ use mathlib.Core.List.{List}
 use borrow.Author.Tests.{eqb-true, eq-eqb, ne-eqb}
 use lib.ListN.{getD}
 use Rattle.rules.specs.State.{most-terms}
-use Rattle.token.specs.declared.KeyNo.{KeyNo}
-use Rattle.token.specs.declared.TermNo.{TermNo}
-use Rattle.token.specs.declared.Entry.{Entry}
-use Rattle.token.specs.declared.Term.{Term as Kind}
-use Rattle.token.specs.declared.Term.the-variants.{Data, Key, Seal}
-use Rattle.token.specs.declared.Equal.{Equal}
-use Rattle.token.specs.declared.Equal.the-variants.{At, New}
+use Rattle.deciding.specs.declared.KeyNo.{KeyNo}
+use Rattle.deciding.specs.declared.TermNo.{TermNo}
+use Rattle.deciding.specs.declared.Entry.{Entry}
+use Rattle.deciding.specs.declared.Term.{Term as Kind}
+use Rattle.deciding.specs.declared.Term.the-variants.{Data, Key, Seal}
+use Rattle.deciding.specs.declared.Equal.{Equal}
+use Rattle.deciding.specs.declared.Equal.the-variants.{At, New}
 use Rattle.token.specs.Chains.{last}
 use Rattle.token.specs.Shows.{seal-code, code-of}
 use Rattle.token.specs.Leaks.{kind-at}

@@ -18,7 +18,7 @@ use Rattle.sheets.specs.Sheets.{Holdable, part-limit, part-number, policy-numbe
 use Rattle.sheets.specs.Reading.{read-policy}
 use Rattle.token.specs.declared.Token.{Token}
 use Rattle.token.specs.Shows.{seal-code, Shows}
-use Rattle.token.specs.Decisions.{decided, keyOf}
+use Rattle.deciding.specs.Decisions.{decided, keyOf}
 use Rattle.token.specs.Views.{viewOf, namesOf, aimOf, equalIn, slotAt, entryAt}
 use Rattle.token.specs.Direct.{commandOf}
 use Rattle.token.proofs.SeenParts.{slot-key, slot-term}

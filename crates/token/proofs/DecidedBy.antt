@@ -17,10 +17,10 @@ use Rattle.rules.specs.Runs.{number-in}
 use Rattle.rules.specs.Computing.{judge}
 use Rattle.sheets.specs.Sheets.{policy-number}
 use Rattle.sheets.specs.Reading.{read-policy}
-use Rattle.token.specs.declared.Change.{Change}
-use Rattle.token.specs.declared.Change.the-variants.{Nothing}
-use Rattle.token.specs.declared.Decision.{Decision}
-use Rattle.token.specs.Decisions.{decision}
+use Rattle.deciding.specs.declared.Change.{Change}
+use Rattle.deciding.specs.declared.Change.the-variants.{Nothing}
+use Rattle.deciding.specs.declared.Decision.{Decision}
+use Rattle.deciding.specs.Decisions.{decision}
 use Rattle.token.proofs.ChangeFor.{value-for, change-for}
 
 -- the first refusal that applies to a command in a state, 0 for none

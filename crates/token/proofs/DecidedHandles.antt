@@ -11,10 +11,10 @@ use Rattle.rules.specs.Refusals.{no-keys-encrypted}
 use Rattle.rules.specs.Computing.{judge}
 use Rattle.rules.proofs.Sound.{Sound}
 use Rattle.rules.proofs.Done.{done}
-use Rattle.token.specs.declared.TermNo.{TermNo}
-use Rattle.token.specs.declared.Entry.{Entry}
+use Rattle.deciding.specs.declared.TermNo.{TermNo}
+use Rattle.deciding.specs.declared.Entry.{Entry}
 use Rattle.token.specs.Shows.{entry-for}
-use Rattle.token.specs.Decisions.{decidedDestroy, decidedCorrupt}
+use Rattle.deciding.specs.Decisions.{decidedDestroy, decidedCorrupt}
 use Rattle.token.proofs.ChangeFor.{change-for}
 use Rattle.token.proofs.SeenParts.{seen-term}
 use Rattle.token.proofs.Seen.{handle-of, live-key-in}

@@ -16,9 +16,9 @@ use Rattle.rules.proofs.Sound.{Sound}
 use Rattle.rules.proofs.Done.{done}
 use Rattle.rules.proofs.Named.{generates}
 use Rattle.sheets.specs.Reading.{read-policy}
-use Rattle.token.specs.declared.HandleNo.{HandleNo}
-use Rattle.token.specs.declared.Change.the-variants.{NewKey}
-use Rattle.token.specs.Decisions.{decidedGenerate, decidedOwnKey, decidedOwnData}
+use Rattle.deciding.specs.declared.HandleNo.{HandleNo}
+use Rattle.deciding.specs.declared.Change.the-variants.{NewKey}
+use Rattle.deciding.specs.Decisions.{decidedGenerate, decidedOwnKey, decidedOwnData}
 use Rattle.token.proofs.ChangeFor.{change-for}
 use Rattle.token.proofs.SeenFree.{free-for, full-seen, free-handle-seen}
 use Rattle.token.proofs.DecidedBy.{Decides, refusal-for, decides-by, both-ask, passed-over, asking-opened, value-opened}

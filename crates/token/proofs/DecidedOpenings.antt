@@ -16,10 +16,10 @@ use Rattle.rules.proofs.Sound.{Sound}
 use Rattle.rules.proofs.Done.{done}
 use Rattle.rules.proofs.Named.{both}
 use Rattle.sheets.specs.Reading.{read-policy}
-use Rattle.token.specs.declared.HandleNo.{HandleNo}
-use Rattle.token.specs.declared.Entry.{Entry}
+use Rattle.deciding.specs.declared.HandleNo.{HandleNo}
+use Rattle.deciding.specs.declared.Entry.{Entry}
 use Rattle.token.specs.Shows.{entry-for}
-use Rattle.token.specs.Decisions.{slot-in, entry-in, isKeyEntry, sealedUnder, decidedUnwrap, decidedDecrypt}
+use Rattle.deciding.specs.Decisions.{slot-in, entry-in, isKeyEntry, sealedUnder, decidedUnwrap, decidedDecrypt}
 use Rattle.token.proofs.ChangeFor.{change-for}
 use Rattle.token.proofs.SeenParts.{or-item, seen-key, entry-is-key, entry-key}
 use Rattle.token.proofs.Seen.{handle-of, lookup-of, lookup-entry, under-seen, payload-seen, payload-in}

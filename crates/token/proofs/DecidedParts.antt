@@ -15,10 +15,10 @@ use Rattle.rules.specs.Flags.{Flag, has}
 use Rattle.rules.specs.State.{State, Now, Slot, slot, is-live, flags-of, is-term, table-full, most-terms}
 use Rattle.rules.specs.Computing.{judge}
 use Rattle.rules.proofs.Named.{neither}
-use Rattle.token.specs.declared.Change.{Change}
-use Rattle.token.specs.declared.Change.the-variants.{Nothing}
+use Rattle.deciding.specs.declared.Change.{Change}
+use Rattle.deciding.specs.declared.Change.the-variants.{Nothing}
 use Rattle.token.specs.Shows.{entry-for}
-use Rattle.token.specs.Decisions.{is-dead, slot-in, is-missing, entry-in, is-new, sealNumber, sealChange, learning}
+use Rattle.deciding.specs.Decisions.{is-dead, slot-in, is-missing, entry-in, is-new, sealNumber, sealChange, learning}
 use Rattle.token.proofs.ChangeFor.{gift-change}
 use Rattle.token.proofs.SeenParts.{seen-dead, seen-flags, or-item, entry-held, entry-is-key}
 use Rattle.token.proofs.Seen.{handle-of, lookup-of, missing-seen, lookup-entry, held-seen}

@@ -16,10 +16,10 @@ use Rattle.rules.specs.Computing.{judge}
 use Rattle.rules.proofs.Sound.{Sound}
 use Rattle.rules.proofs.Done.{done}
 use Rattle.sheets.specs.Reading.{read-policy}
-use Rattle.token.specs.declared.Entry.{Entry}
-use Rattle.token.specs.declared.Equal.{Equal}
+use Rattle.deciding.specs.declared.Entry.{Entry}
+use Rattle.deciding.specs.declared.Equal.{Equal}
 use Rattle.token.specs.Shows.{entry-for}
-use Rattle.token.specs.Decisions.{slot-in, entry-in, isKeyEntry, decidedWrap, decidedEncrypt, decidedSeal}
+use Rattle.deciding.specs.Decisions.{slot-in, entry-in, isKeyEntry, decidedWrap, decidedEncrypt, decidedSeal}
 use Rattle.token.proofs.ChangeFor.{seal-change, change-for}
 use Rattle.token.proofs.SeenParts.{seen-flags, seen-key, seen-term, entry-held}
 use Rattle.token.proofs.Seen.{handle-of, lookup-of, term-number, lookup-entry, key-seen, key-number-seen}

@@ -11,10 +11,10 @@ use lib.ListN.{length, getD, length-set}
 use borrow.Author.Tests.{ltb-true, ltb-false}
 use Rattle.terms.proofs.Lists.{bool-cases}
 use Rattle.rules.specs.State.{most-terms}
-use Rattle.token.specs.declared.Entry.{Entry}
-use Rattle.token.specs.declared.KeyNo.{KeyNo}
-use Rattle.token.specs.declared.Term.{Term as Kind}
-use Rattle.token.specs.declared.Term.the-variants.{Data, Key, Seal}
+use Rattle.deciding.specs.declared.Entry.{Entry}
+use Rattle.deciding.specs.declared.KeyNo.{KeyNo}
+use Rattle.deciding.specs.declared.Term.{Term as Kind}
+use Rattle.deciding.specs.declared.Term.the-variants.{Data, Key, Seal}
 use Rattle.token.specs.Chains.{Linked}
 use Rattle.token.specs.Shows.{under-chain}
 use Rattle.token.specs.Leaks.{kind-at, held-at, Opens, Leak, the-leak, leads, Followable, Followed}

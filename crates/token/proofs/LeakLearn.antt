@@ -11,9 +11,9 @@ use lib.Seq.{getD-set-same, getD-set-other}
 use borrow.Author.Tests.{ltb-true, ltb-false}
 use Rattle.terms.proofs.Lists.{bool-cases}
 use Rattle.rules.specs.State.{most-terms}
-use Rattle.token.specs.declared.Entry.{Entry}
-use Rattle.token.specs.declared.KeyNo.{KeyNo}
-use Rattle.token.specs.declared.Term.the-variants.{Key}
+use Rattle.deciding.specs.declared.Entry.{Entry}
+use Rattle.deciding.specs.declared.KeyNo.{KeyNo}
+use Rattle.deciding.specs.declared.Term.the-variants.{Key}
 use Rattle.token.specs.Leaks.{kind-at, held-at, Leak}
 use Rattle.token.proofs.LeakCount.{unheld, unheld-set}
 use Rattle.token.proofs.LeakMark.{marked, marked-kind, marked-own, marked-still, marked-only}

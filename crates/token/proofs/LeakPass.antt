@@ -9,9 +9,9 @@ use lib.Dec.{ltb}
 use lib.ListN.{getD}
 use borrow.Author.Tests.{ltb-true, ltb-false}
 use Rattle.terms.proofs.Lists.{bool-cases}
-use Rattle.token.specs.declared.Entry.{Entry}
-use Rattle.token.specs.declared.KeyNo.{KeyNo}
-use Rattle.token.specs.declared.Term.the-variants.{Key, Seal}
+use Rattle.deciding.specs.declared.Entry.{Entry}
+use Rattle.deciding.specs.declared.KeyNo.{KeyNo}
+use Rattle.deciding.specs.declared.Term.the-variants.{Key, Seal}
 use Rattle.token.specs.Leaks.{kind-at, held-at}
 use Rattle.token.proofs.ChainsLast.{last-passes, last-above}
 use Rattle.token.proofs.LeakSeals.{Ready, SealUnder, under, seal-under, under-seal, seal-below, older-link}

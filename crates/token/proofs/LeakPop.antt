@@ -8,9 +8,9 @@ use lib.ListN.{getD}
 use borrow.Author.Tests.{ltb-true, ltb-false}
 use Rattle.terms.proofs.Lists.{bool-cases}
 use Rattle.rules.specs.State.{most-terms}
-use Rattle.token.specs.declared.Entry.{Entry}
-use Rattle.token.specs.declared.KeyNo.{KeyNo}
-use Rattle.token.specs.declared.Term.the-variants.{Seal}
+use Rattle.deciding.specs.declared.Entry.{Entry}
+use Rattle.deciding.specs.declared.KeyNo.{KeyNo}
+use Rattle.deciding.specs.declared.Term.the-variants.{Seal}
 use Rattle.token.specs.Leaks.{kind-at}
 use Rattle.token.proofs.LeakSeals.{Ready, seal-below, newest-link}
 use Rattle.token.proofs.LeakWalk.{Source, Walk, Due, held-now, waiting, ahead, none-ahead}

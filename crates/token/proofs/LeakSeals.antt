@@ -9,11 +9,11 @@ use lib.ListN.{length, getD}
 use borrow.Author.Tests.{eqb-true, eq-eqb, ltb-true, ltb-false, lt-ltb}
 use Rattle.terms.proofs.Lists.{bool-cases}
 use Rattle.rules.specs.State.{most-terms}
-use Rattle.token.specs.declared.Entry.{Entry}
-use Rattle.token.specs.declared.KeyNo.{KeyNo}
-use Rattle.token.specs.declared.TermNo.{TermNo}
-use Rattle.token.specs.declared.Term.{Term as Kind}
-use Rattle.token.specs.declared.Term.the-variants.{Data, Key, Seal}
+use Rattle.deciding.specs.declared.Entry.{Entry}
+use Rattle.deciding.specs.declared.KeyNo.{KeyNo}
+use Rattle.deciding.specs.declared.TermNo.{TermNo}
+use Rattle.deciding.specs.declared.Term.{Term as Kind}
+use Rattle.deciding.specs.declared.Term.the-variants.{Data, Key, Seal}
 use Rattle.token.specs.Chains.{Linked, last, in-chain, next-in}
 use Rattle.token.specs.Shows.{under-chain}
 use Rattle.token.specs.Leaks.{kind-at}

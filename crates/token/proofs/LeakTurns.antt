@@ -9,14 +9,14 @@ use native.Mathlib.Omega.{arith}
 use lib.ListN.{length, getD, set, length-set}
 use borrow.Author.Tests.{not-true, not-false}
 use Rattle.rules.specs.State.{most-terms}
-use Rattle.token.specs.declared.Entry.{Entry}
-use Rattle.token.specs.declared.KeyNo.{KeyNo}
-use Rattle.token.specs.declared.TermNo.{TermNo}
+use Rattle.deciding.specs.declared.Entry.{Entry}
+use Rattle.deciding.specs.declared.KeyNo.{KeyNo}
+use Rattle.deciding.specs.declared.TermNo.{TermNo}
 use Rattle.token.specs.declared.Table.{Table}
-use Rattle.token.specs.declared.Term.{Term as Kind}
-use Rattle.token.specs.declared.Term.the-variants.{Data, Key, Seal}
+use Rattle.deciding.specs.declared.Term.{Term as Kind}
+use Rattle.deciding.specs.declared.Term.the-variants.{Data, Key, Seal}
 use Rattle.token.specs.Shows.{blank-entry}
-use Rattle.token.specs.Decisions.{isKey, isKeyEntry, keyOf, payloadNo}
+use Rattle.deciding.specs.Decisions.{isKey, isKeyEntry, keyOf, payloadNo}
 use Rattle.token.specs.Leaks.{kind-at, held-at, Leak, leads}
 use Rattle.token.proofs.ChainsLast.{last-le}
 use Rattle.token.proofs.LeakCount.{unheld, unheld-set}

@@ -6,7 +6,7 @@ use mathlib.Core.List.{List}
 use mathlib.Core.Logic.{⊎-elim}
 use lib.Seq.{ext-getD}
 use Rattle.terms.proofs.Lists.{bool-cases}
-use Rattle.token.specs.declared.Entry.{Entry}
+use Rattle.deciding.specs.declared.Entry.{Entry}
 use Rattle.token.specs.declared.Table.{Table}
 use Rattle.token.specs.Shows.{blank-entry}
 use Rattle.token.specs.Leaks.{kind-at, held-at, Followed}

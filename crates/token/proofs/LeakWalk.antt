@@ -8,10 +8,10 @@ use mathlib.Core.Logic.{_⊎_}
 use native.Mathlib.Omega.{arith}
 use lib.ListN.{length, getD}
 use Rattle.rules.specs.State.{most-terms}
-use Rattle.token.specs.declared.Entry.{Entry}
-use Rattle.token.specs.declared.KeyNo.{KeyNo}
-use Rattle.token.specs.declared.TermNo.{TermNo}
-use Rattle.token.specs.declared.Term.the-variants.{Key, Seal}
+use Rattle.deciding.specs.declared.Entry.{Entry}
+use Rattle.deciding.specs.declared.KeyNo.{KeyNo}
+use Rattle.deciding.specs.declared.TermNo.{TermNo}
+use Rattle.deciding.specs.declared.Term.the-variants.{Key, Seal}
 use Rattle.token.specs.Chains.{last}
 use Rattle.token.specs.Leaks.{kind-at, held-at, Leak, the-leak, leads, Followed}
 use Rattle.token.proofs.ChainsLast.{last-above}

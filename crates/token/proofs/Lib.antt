@@ -8,9 +8,6 @@ pub mod ChainsLast
 pub mod ChainsKept
 pub mod ChainsFound
 pub mod Codes
-pub mod TableRules
-pub mod Answers
-pub mod Parsing
 pub mod ChangeFor
 pub mod SeenParts
 pub mod Seen
@@ -56,6 +53,7 @@ pub mod ChangedRoom
 pub mod ApiLook
 pub mod ApiApply
 pub mod ApiKnown
+pub mod ApiWritten
 pub mod StepShown
 pub mod CallShown
 pub mod Going

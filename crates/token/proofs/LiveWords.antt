@@ -11,7 +11,7 @@ use lib.Seq.{ext-getD, take-suc, take-all}
 use borrow.Author.Tests.{eqb-true, eqb-false}
 use Rattle.rules.specs.State.{Now, Slot, dead, live, slot, is-live, most-handles, count-live, new-handle, all-live}
 use Rattle.rules.proofs.NewHandle.{new-handle-dead, below-new-handle, new-handle-below, all-live-each}
-use Rattle.token.specs.declared.Free.the-variants.{At, Full}
+use Rattle.deciding.specs.declared.Free.the-variants.{At, Full}
 use Rattle.token.specs.Live.{bit, Words, free-in, count-below, count-in}
 use Rattle.token.proofs.LiveWordsDigits.{digit-small, digit-of-zero, digits-unique}
 use Rattle.token.proofs.LiveWordsBits.{bit-at, first-of, full-of}

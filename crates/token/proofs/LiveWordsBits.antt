@@ -14,7 +14,7 @@ use lib.Arith.{digits-div, digits-mod}
 use lib.Count.{ones, ones-le}
 use Rattle.rules.specs.State.{most-handles}
 use Rattle.sheets.proofs.Places.{smallest-some, smallest-none}
-use Rattle.token.specs.declared.Free.the-variants.{At, Full}
+use Rattle.deciding.specs.declared.Free.the-variants.{At, Full}
 use Rattle.token.specs.Live.{bit, Words, free-of, free-in, count-below, count-in, BitSet}
 use Rattle.token.proofs.LiveWordsDigits.{digit, digit-small, ones-more}
 

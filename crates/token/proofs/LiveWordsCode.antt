@@ -20,7 +20,7 @@ use denote.Laws.{Is}
 use denote.Array.{Array}
 use denote.Plain.{UInt}
 use Rattle.rules.specs.State.{most-handles}
-use Rattle.token.specs.declared.Free.the-variants.{At, Full}
+use Rattle.deciding.specs.declared.Free.the-variants.{At, Full}
 use Rattle.token.specs.Live.{bit, Words, free-in, BitSet}
 use Rattle.token.proofs.LiveWordsDigits.{digit, digit-small, digit-and, digit-or, complement, digit-complement}
 use Rattle.token.proofs.LiveWordsDigits.{digit-power, digit-power-other, free-below, free-at}

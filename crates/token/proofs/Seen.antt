@@ -19,11 +19,11 @@ use Rattle.rules.specs.Refusals.{sealed-under}
 use Rattle.rules.specs.Computing.{judge}
 use Rattle.rules.proofs.Sound.{Sound}
 use Rattle.token.specs.declared.Token.{Token}
-use Rattle.token.specs.declared.Handle.{Handle}
-use Rattle.token.specs.declared.Lookup.{Lookup}
+use Rattle.deciding.specs.declared.Handle.{Handle}
+use Rattle.deciding.specs.declared.Lookup.{Lookup}
 use Rattle.token.specs.Live.{bit}
 use Rattle.token.specs.Shows.{entry-for, entry-of, slot-for, Shows}
-use Rattle.token.specs.Decisions.{is-missing, entry-in, isKey, keyOf, sealedUnder, payloadNo}
+use Rattle.deciding.specs.Decisions.{is-missing, entry-in, isKey, keyOf, sealedUnder, payloadNo}
 use Rattle.token.specs.Views.{entryAt, slotAt, handleIn, lookupIn}
 use Rattle.token.proofs.SeenParts.{handle-for, handle-in, lookup-for, lookup-in, is-there, below-there, or-item, getD-or}
 use Rattle.token.proofs.SeenParts.{seen-there, seen-entry, entry-judged, entry-is-key, entry-key, entry-under, entry-payload}

@@ -6,11 +6,11 @@ use Rattle.terms.proofs.Lists.{bool-cases}
 use Rattle.rules.specs.State.{State, Now, new-handle, all-live}
 use Rattle.rules.proofs.Sound.{Sound}
 use Rattle.token.specs.declared.Token.{Token}
-use Rattle.token.specs.declared.Free.{Free}
-use Rattle.token.specs.declared.Free.the-variants.{At, Full}
+use Rattle.deciding.specs.declared.Free.{Free}
+use Rattle.deciding.specs.declared.Free.the-variants.{At, Full}
 use Rattle.token.specs.Live.{free-in}
 use Rattle.token.specs.Shows.{Shows}
-use Rattle.token.specs.Decisions.{is-full, free-handle}
+use Rattle.deciding.specs.Decisions.{is-full, free-handle}
 use Rattle.token.proofs.LiveWords.{free-shown}
 
 -- the free number that is seen in a state

@@ -13,13 +13,13 @@ use Rattle.rules.specs.State.{State, dead, live, is-live, key-of, flags-of, is-
 use Rattle.rules.specs.State.{Slot as Hand}
 use Rattle.rules.specs.Refusals.{sealed-under}
 use Rattle.rules.specs.Computing.{judged}
-use Rattle.token.specs.declared.Entry.{Entry}
-use Rattle.token.specs.declared.Handle.{Handle}
-use Rattle.token.specs.declared.Handle.the-variants.{Live, Dead}
-use Rattle.token.specs.declared.Lookup.{Lookup}
-use Rattle.token.specs.declared.Lookup.the-variants.{There, Nothing}
+use Rattle.deciding.specs.declared.Entry.{Entry}
+use Rattle.deciding.specs.declared.Handle.{Handle}
+use Rattle.deciding.specs.declared.Handle.the-variants.{Live, Dead}
+use Rattle.deciding.specs.declared.Lookup.{Lookup}
+use Rattle.deciding.specs.declared.Lookup.the-variants.{There, Nothing}
 use Rattle.token.specs.Shows.{entry-for, slot-for}
-use Rattle.token.specs.Decisions.{is-dead, slot-in, is-missing, entry-in, isKey, keyOf, sealedUnder, payloadNo}
+use Rattle.deciding.specs.Decisions.{is-dead, slot-in, is-missing, entry-in, isKey, keyOf, sealedUnder, payloadNo}
 use Rattle.token.specs.Views.{handleIn, lookupIn}
 use Rattle.token.proofs.ChangeFor.{held-in}
 

@@ -12,10 +12,10 @@ use Rattle.terms.proofs.Lists.{bool-cases, at-in}
 use Rattle.terms.proofs.Terms.{number-at, listed-true, listed-false}
 use Rattle.rules.specs.State.{State, most-terms}
 use Rattle.rules.proofs.Sound.{Sound}
-use Rattle.token.specs.declared.Entry.{Entry}
+use Rattle.deciding.specs.declared.Entry.{Entry}
 use Rattle.token.specs.declared.Token.{Token}
-use Rattle.token.specs.declared.Equal.{Equal}
-use Rattle.token.specs.declared.Equal.the-variants.{At, New}
+use Rattle.deciding.specs.declared.Equal.{Equal}
+use Rattle.deciding.specs.declared.Equal.the-variants.{At, New}
 use Rattle.token.specs.Shows.{entry-for, entry-of, seal-code, code-of, Shows}
 use Rattle.token.specs.Views.{equalIn}
 use Rattle.token.proofs.Codes.{equal-found, equal-none, seal-code-same}

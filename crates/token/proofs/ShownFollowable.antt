@@ -13,15 +13,15 @@ use Rattle.terms.proofs.Terms.{number-at}
 use Rattle.rules.specs.State.{State, most-terms}
 use Rattle.rules.proofs.Sound.{Sound}
 use Rattle.rules.proofs.ShapeKept.{parts-in}
-use Rattle.token.specs.declared.KeyNo.{KeyNo}
-use Rattle.token.specs.declared.TermNo.{TermNo}
-use Rattle.token.specs.declared.Term.{Term as Kind}
-use Rattle.token.specs.declared.Term.the-variants.{Data, Key, Seal}
+use Rattle.deciding.specs.declared.KeyNo.{KeyNo}
+use Rattle.deciding.specs.declared.TermNo.{TermNo}
+use Rattle.deciding.specs.declared.Term.{Term as Kind}
+use Rattle.deciding.specs.declared.Term.the-variants.{Data, Key, Seal}
 use Rattle.token.specs.declared.Links.{Links}
 use Rattle.token.specs.declared.Table.{Table as Stored}
 use Rattle.token.specs.Chains.{Linked}
 use Rattle.token.specs.Shows.{ShowsLinks, blank-entry, under-chain}
-use Rattle.token.specs.Decisions.{keyOf}
+use Rattle.deciding.specs.Decisions.{keyOf}
 use Rattle.token.specs.Leaks.{kind-at, Followable}
 use Rattle.token.proofs.ShownParts.{kind-for, held-for, own-for, TableShown, entry-from, none-past}
 use Rattle.token.proofs.ShownCounts.{key-below}

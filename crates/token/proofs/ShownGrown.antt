@@ -16,8 +16,8 @@ use Rattle.rules.specs.State.{State, Now, dead, live}
 use Rattle.rules.specs.State.{Slot as Handle}
 use Rattle.rules.proofs.Sound.{Sound}
 use Rattle.rules.proofs.ShapeKept.{parts-in}
-use Rattle.token.specs.declared.Term.the-variants.{Seal}
-use Rattle.token.specs.declared.Entry.{Entry}
+use Rattle.deciding.specs.declared.Term.the-variants.{Seal}
+use Rattle.deciding.specs.declared.Entry.{Entry}
 use Rattle.token.specs.Shows.{blank-entry, is-own, slot-for}
 use Rattle.token.proofs.MarksKept.{mark}
 use Rattle.token.proofs.ShownParts.{kind-for, held-for, own-for, TermsShown, MarksShown}

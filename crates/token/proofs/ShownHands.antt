@@ -12,7 +12,7 @@ use Rattle.terms.specs.Lists.{_∈_}
 use Rattle.rules.specs.State.{State, dead, live, slot, is-live, most-handles}
 use Rattle.rules.specs.State.{Slot as Handle}
 use Rattle.rules.proofs.Sound.{Sound}
-use Rattle.token.specs.declared.Slot.{Slot}
+use Rattle.deciding.specs.declared.Slot.{Slot}
 use Rattle.token.specs.declared.Hands.{Hands}
 use Rattle.token.specs.Shows.{ShowsHands, blank-slot, slot-for}
 use Rattle.token.specs.Applied.{SlotSet}

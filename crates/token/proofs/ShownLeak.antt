@@ -16,10 +16,10 @@ use Rattle.terms.proofs.Terms.{number-at}
 use Rattle.rules.specs.State.{State, most-terms}
 use Rattle.rules.proofs.Sound.{Sound}
 use Rattle.rules.proofs.ShapeKept.{parts-in}
-use Rattle.token.specs.declared.KeyNo.{KeyNo}
-use Rattle.token.specs.declared.TermNo.{TermNo}
-use Rattle.token.specs.declared.Term.the-variants.{Key, Seal}
-use Rattle.token.specs.declared.Entry.{Entry}
+use Rattle.deciding.specs.declared.KeyNo.{KeyNo}
+use Rattle.deciding.specs.declared.TermNo.{TermNo}
+use Rattle.deciding.specs.declared.Term.the-variants.{Key, Seal}
+use Rattle.deciding.specs.declared.Entry.{Entry}
 use Rattle.token.specs.Leaks.{kind-at, held-at, Opens, Leak, the-leak, leads, ClosedBut, Followed}
 use Rattle.token.proofs.MarksKept.{Reaches, mark, marked-reached, reached-marked, alike, reached-within}
 use Rattle.token.proofs.ShownParts.{kind-for, held-for, TermsShown, MarksShown}

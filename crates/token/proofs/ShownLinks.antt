@@ -9,11 +9,11 @@ use mathlib.Core.Logic.{by-cases}
 use lib.ListN.{length, getD, set, length-set}
 use lib.Seq.{getD-set-same, getD-set-other}
 use Rattle.rules.specs.State.{most-terms}
-use Rattle.token.specs.declared.KeyNo.{KeyNo}
-use Rattle.token.specs.declared.TermNo.{TermNo}
-use Rattle.token.specs.declared.Term.{Term as Kind}
-use Rattle.token.specs.declared.Term.the-variants.{Data, Key}
-use Rattle.token.specs.declared.Entry.{Entry}
+use Rattle.deciding.specs.declared.KeyNo.{KeyNo}
+use Rattle.deciding.specs.declared.TermNo.{TermNo}
+use Rattle.deciding.specs.declared.Term.{Term as Kind}
+use Rattle.deciding.specs.declared.Term.the-variants.{Data, Key}
+use Rattle.deciding.specs.declared.Entry.{Entry}
 use Rattle.token.specs.declared.Links.{Links}
 use Rattle.token.specs.Shows.{ShowsLinks, blank-entry, code-of, seal-code, under-chain, bucket-chain}
 use Rattle.token.specs.Leaks.{kind-at}

@@ -13,9 +13,9 @@ use borrow.Author.Tests.{ltb-true, ltb-false}
 use Rattle.terms.specs.Terms.{Term, Table, item, key, seal, number-of}
 use Rattle.terms.proofs.Lists.{bool-cases}
 use Rattle.rules.specs.State.{State, Now, Origin, most-terms}
-use Rattle.token.specs.declared.Term.{Term as Kind}
-use Rattle.token.specs.declared.Term.the-variants.{Data, Key, Seal}
-use Rattle.token.specs.declared.Entry.{Entry}
+use Rattle.deciding.specs.declared.Term.{Term as Kind}
+use Rattle.deciding.specs.declared.Term.the-variants.{Data, Key, Seal}
+use Rattle.deciding.specs.declared.Entry.{Entry}
 use Rattle.token.specs.declared.Table.{Table as Stored}
 use Rattle.token.specs.declared.Token.{Token}
 use Rattle.token.specs.Shows.{Shows, ShowsLinks, ShowsHands, blank-entry, entry, is-own, entry-for, entry-of}

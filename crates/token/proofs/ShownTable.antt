@@ -11,7 +11,7 @@ use Rattle.terms.specs.Terms.{Term, Table, key}
 use Rattle.terms.proofs.Lists.{at-append}
 use Rattle.rules.specs.State.{State, Now, most-terms}
 use Rattle.rules.proofs.Sound.{Sound}
-use Rattle.token.specs.declared.Entry.{Entry}
+use Rattle.deciding.specs.declared.Entry.{Entry}
 use Rattle.token.specs.declared.Table.{Table as Stored}
 use Rattle.token.specs.Applied.{appended, keys-with, TableFollowed}
 use Rattle.token.proofs.MarksKept.{mark}

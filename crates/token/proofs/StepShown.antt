@@ -23,16 +23,16 @@ use Rattle.rules.proofs.SoundKept.{sound}
 use Rattle.rules.proofs.Judging.{judge-judges}
 use Rattle.sheets.specs.Sheets.{policy-number, Holdable}
 use Rattle.sheets.specs.Reading.{read-policy}
-use Rattle.token.specs.declared.Command.{Command as Stored}
-use Rattle.token.specs.declared.Change.{Change}
-use Rattle.token.specs.declared.Change.the-variants.{Nothing}
-use Rattle.token.specs.declared.Decision.{Decision}
-use Rattle.token.specs.declared.View.{View}
+use Rattle.deciding.specs.declared.Command.{Command as Stored}
+use Rattle.deciding.specs.declared.Change.{Change}
+use Rattle.deciding.specs.declared.Change.the-variants.{Nothing}
+use Rattle.deciding.specs.declared.Decision.{Decision}
+use Rattle.deciding.specs.declared.View.{View}
 use Rattle.token.specs.declared.Token.{Token}
 use Rattle.token.specs.declared.Called.{Called}
-use Rattle.token.specs.declared.Entry.{Entry}
+use Rattle.deciding.specs.declared.Entry.{Entry}
 use Rattle.token.specs.Shows.{Shows, blank-entry, entry-of, entry-for, code-of}
-use Rattle.token.specs.Decisions.{decided}
+use Rattle.deciding.specs.Decisions.{decided}
 use Rattle.token.specs.Views.{viewOf, Findable}
 use Rattle.token.specs.Applied.{Applicable, Applied}
 use Rattle.token.specs.Direct.{commandOf, ComesFrom, StepAsks, SteppedBy, Stepped}

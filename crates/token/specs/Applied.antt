@@ -5,23 +5,23 @@ use mathlib.Core.Bool.{Bool, true, false}
 use mathlib.Core.List.{List}
 use lib.ListN.{length, getD, set}
 use Rattle.rules.specs.State.{most-terms, most-handles}
-use Rattle.token.specs.declared.KeyNo.{KeyNo}
-use Rattle.token.specs.declared.TermNo.{TermNo}
-use Rattle.token.specs.declared.HandleNo.{HandleNo}
-use Rattle.token.specs.declared.Term.{Term as Kind}
-use Rattle.token.specs.declared.Term.the-variants.{Data, Key, Seal}
-use Rattle.token.specs.declared.Entry.{Entry}
-use Rattle.token.specs.declared.Slot.{Slot}
+use Rattle.deciding.specs.declared.KeyNo.{KeyNo}
+use Rattle.deciding.specs.declared.TermNo.{TermNo}
+use Rattle.deciding.specs.declared.HandleNo.{HandleNo}
+use Rattle.deciding.specs.declared.Term.{Term as Kind}
+use Rattle.deciding.specs.declared.Term.the-variants.{Data, Key, Seal}
+use Rattle.deciding.specs.declared.Entry.{Entry}
+use Rattle.deciding.specs.declared.Slot.{Slot}
 use Rattle.token.specs.declared.Table.{Table}
 use Rattle.token.specs.declared.Links.{Links}
 use Rattle.token.specs.declared.Hands.{Hands}
 use Rattle.token.specs.declared.Token.{Token}
-use Rattle.token.specs.declared.Change.{Change}
-use Rattle.token.specs.declared.Change.the-variants.{Nothing, Bind, Release, NewKey, OwnKey, OwnData, NewSeal, Know}
+use Rattle.deciding.specs.declared.Change.{Change}
+use Rattle.deciding.specs.declared.Change.the-variants.{Nothing, Bind, Release, NewKey, OwnKey, OwnData, NewSeal, Know}
 use Rattle.token.specs.Live.{BitSet}
 use Rattle.token.specs.Shows.{entry, blank-slot, seal-code}
 use Rattle.token.specs.Leaks.{Followed, Followable, kind-at}
-use Rattle.token.specs.Decisions.{keyOf}
+use Rattle.deciding.specs.Decisions.{keyOf}
 
 -- the slot of handle h is stored, and h is live, or not
 pub record SlotSet (hands : Hands) (h : ℕ) (slot : Slot) (to : Bool) (result : Hands) : Type 0 where

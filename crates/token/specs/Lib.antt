@@ -3,8 +3,6 @@
 pub mod Chains
 pub mod Live
 pub mod Shows
-pub mod Tables
-pub mod Decisions
 pub mod Views
 pub mod Leaks
 pub mod Applied

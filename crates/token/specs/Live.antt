@@ -8,8 +8,8 @@ use lib.Dec.{eqb}
 use lib.ListN.{length, getD}
 use Rattle.rules.specs.State.{most-handles}
 use Rattle.sheets.specs.Faults.{smallest}
-use Rattle.token.specs.declared.Free.{Free}
-use Rattle.token.specs.declared.Free.the-variants.{At, Full}
+use Rattle.deciding.specs.declared.Free.{Free}
+use Rattle.deciding.specs.declared.Free.the-variants.{At, Full}
 
 unfoldable pub bit : List ℕ → (h : ℕ) → Bool
 bit words h = eqb (getD words (h / 64) 0 / 2 ^ (h % 64) % 2) 1

@@ -11,25 +11,16 @@ use Rattle.terms.specs.Terms.{Term, item, key, seal, number-of}
 use Rattle.terms.specs.Following.{held-by-following}
 use Rattle.rules.specs.State.{State, Now, dead, live, Origin, generated, own, slot, is-live, most-handles, most-terms}
 use Rattle.rules.specs.State.{Slot as Handle}
-use Rattle.token.specs.declared.Entry.{Entry}
-use Rattle.token.specs.declared.Term.{Term as Kind}
-use Rattle.token.specs.declared.Term.the-variants.{Data, Key, Seal}
-use Rattle.token.specs.declared.Slot.{Slot}
+use Rattle.deciding.specs.declared.Entry.{Entry}
+use Rattle.deciding.specs.declared.Term.{Term as Kind}
+use Rattle.deciding.specs.declared.Term.the-variants.{Data, Key, Seal}
+use Rattle.deciding.specs.declared.Slot.{Slot}
 use Rattle.token.specs.declared.Links.{Links}
 use Rattle.token.specs.declared.Hands.{Hands}
 use Rattle.token.specs.declared.Token.{Token}
+pub use Rattle.deciding.specs.Blanks.{blank-entry, blank-slot, entry}
 use Rattle.token.specs.Chains.{Linked, places}
 use Rattle.token.specs.Live.{Words, bit}
-
-abbrev pub blank-entry : Entry
-blank-entry = record { term = Data; marks = record { held = false; own = false } }
-
-abbrev pub blank-slot : Slot
-blank-slot = record { key = record { 0 = 0 }; term = record { 0 = 0 }; flags = 0 }
-
--- an entry of the given kind and marks
-abbrev pub entry : Kind → (is-held is-own : Bool) → Entry
-entry kind h o = record { term = kind; marks = record { held = h; own = o } }
 
 unfoldable pub is-own : Option Origin → Bool
 is-own none = false

@@ -7,27 +7,27 @@ use mathlib.Core.List.{List}
 use lib.Dec.{eqb, ltb}
 use lib.ListN.{length, getD}
 use Rattle.rules.specs.State.{most-terms}
-use Rattle.token.specs.declared.KeyNo.{KeyNo}
-use Rattle.token.specs.declared.TermNo.{TermNo}
-use Rattle.token.specs.declared.HandleNo.{HandleNo}
-use Rattle.token.specs.declared.Entry.{Entry}
-use Rattle.token.specs.declared.Slot.{Slot}
+use Rattle.deciding.specs.declared.KeyNo.{KeyNo}
+use Rattle.deciding.specs.declared.TermNo.{TermNo}
+use Rattle.deciding.specs.declared.HandleNo.{HandleNo}
+use Rattle.deciding.specs.declared.Entry.{Entry}
+use Rattle.deciding.specs.declared.Slot.{Slot}
 use Rattle.token.specs.declared.Table.{Table}
 use Rattle.token.specs.declared.Hands.{Hands}
-use Rattle.token.specs.declared.Handle.{Handle}
-use Rattle.token.specs.declared.Handle.the-variants.{Live, Dead}
-use Rattle.token.specs.declared.Lookup.{Lookup}
-use Rattle.token.specs.declared.Lookup.the-variants.{There, Nothing}
-use Rattle.token.specs.declared.Equal.{Equal}
-use Rattle.token.specs.declared.Equal.the-variants.{At, New}
+use Rattle.deciding.specs.declared.Handle.{Handle}
+use Rattle.deciding.specs.declared.Handle.the-variants.{Live, Dead}
+use Rattle.deciding.specs.declared.Lookup.{Lookup}
+use Rattle.deciding.specs.declared.Lookup.the-variants.{There, Nothing}
+use Rattle.deciding.specs.declared.Equal.{Equal}
+use Rattle.deciding.specs.declared.Equal.the-variants.{At, New}
 use Rattle.token.specs.declared.Names.{Names}
-use Rattle.token.specs.declared.View.{View}
-use Rattle.token.specs.declared.Command.{Command}
-use Rattle.token.specs.declared.Command.the-variants.{Generate, Wrap, Unwrap, Encrypt, Decrypt, Corrupt, Destroy, OwnKey, OwnData, Seal}
+use Rattle.deciding.specs.declared.View.{View}
+use Rattle.deciding.specs.declared.Command.{Command}
+use Rattle.deciding.specs.declared.Command.the-variants.{Generate, Wrap, Unwrap, Encrypt, Decrypt, Corrupt, Destroy, OwnKey, OwnData, Seal}
 use Rattle.token.specs.Chains.{last, Linked}
 use Rattle.token.specs.Live.{bit, free-in}
 use Rattle.token.specs.Shows.{blank-entry, blank-slot, seal-code, bucket-chain}
-use Rattle.token.specs.Decisions.{keyOf, payloadNo}
+use Rattle.deciding.specs.Decisions.{keyOf, payloadNo}
 
 abbrev pub no-handle : HandleNo
 no-handle = record { 0 = 0 }

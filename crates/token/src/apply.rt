@@ -5,24 +5,24 @@ ghost use Prim.Native.Nat.{_<_};
 ghost use lib.ListN.{length};
 ghost use Rattle.rules.specs.State.{most-handles, most-terms};
 ghost use Rattle.token.specs.Shows.{blank-slot, entry as entryWith};
-ghost use Rattle.token.specs.declared.Change.the-variants.{NewSeal};
+ghost use Rattle.deciding.specs.declared.Change.the-variants.{NewSeal};
 ghost use Rattle.token.specs.Applied.{SlotSet, appended, linked, SealRoom, Applicable, Applied};
-use crate::Change;
-use crate::Entry;
-use crate::HandleNo;
 use crate::Hands;
-use crate::KeyNo;
 use crate::Links;
-use crate::Marks;
-use crate::Slot;
 use crate::Table;
-use crate::Term;
-use crate::TermNo;
 use crate::Token;
-use crate::decide::key_of;
 use crate::leaks::follow;
 use crate::live::set_dead;
 use crate::live::set_live;
+use deciding::Change;
+use deciding::Entry;
+use deciding::HandleNo;
+use deciding::KeyNo;
+use deciding::Marks;
+use deciding::Slot;
+use deciding::Term;
+use deciding::TermNo;
+use deciding::decide::key_of;
 
 fn bound(hands: Hands, h: HandleNo, slot: Slot) -> Hands
     requires { ⌜ length (hands .slots) ≡ most-handles ⌝ }

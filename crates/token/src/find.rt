@@ -2,8 +2,8 @@
 ghost use mathlib.Core.Path.{_≡_};
 ghost use Prim.Native.Nat.{_<_};
 ghost use Rattle.token.specs.Views.{Findable, equalIn};
-use crate::Equal;
-use crate::TermNo;
+use deciding::Equal;
+use deciding::TermNo;
 
 // The number of the seal with this code, where there is one.
 pub fn find<'a>(

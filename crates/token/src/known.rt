@@ -6,20 +6,20 @@ ghost use Rattle.sheets.specs.Reports.{keys-bytes};
 ghost use Rattle.sheets.specs.Calls.{over};
 ghost use Rattle.token.specs.Live.{count-in};
 ghost use Rattle.token.specs.Known.{blank-token, is-marked, marked-keys, ListedInto, is-key-no, origin-of, origin-in};
-use crate::Entry;
 use crate::Hands;
-use crate::KeyNo;
 use crate::Links;
 use crate::Listed;
-use crate::Marks;
 use crate::Origin;
-use crate::Slot;
 use crate::Table;
-use crate::Term;
-use crate::TermNo;
 use crate::Token;
-use crate::decide::key_of;
 use crate::live::count;
+use deciding::Entry;
+use deciding::KeyNo;
+use deciding::Marks;
+use deciding::Slot;
+use deciding::Term;
+use deciding::TermNo;
+use deciding::decide::key_of;
 
 // The token with no term and no live handle.
 pub fn fresh() -> Token

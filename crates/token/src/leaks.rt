@@ -3,17 +3,17 @@
 ghost use mathlib.Core.Path.{_≡_};
 ghost use mathlib.Core.Bool.{true, not, _&&_};
 ghost use Rattle.token.specs.Shows.{entry as entryWith};
-ghost use Rattle.token.specs.Decisions.{isKeyEntry};
+ghost use Rattle.deciding.specs.Decisions.{isKeyEntry};
 ghost use Rattle.token.specs.Leaks.{Followable};
 ghost use Rattle.token.specs.Applied.{TableFollowed};
-use crate::Entry;
-use crate::KeyNo;
-use crate::Marks;
 use crate::Table;
-use crate::Term;
-use crate::TermNo;
-use crate::decide::key_of;
-use crate::decide::payload_no;
+use deciding::Entry;
+use deciding::KeyNo;
+use deciding::Marks;
+use deciding::Term;
+use deciding::TermNo;
+use deciding::decide::key_of;
+use deciding::decide::payload_no;
 
 // The table with everything held that the leak of term t leads to.
 pub fn follow<'a>(

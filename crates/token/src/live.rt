@@ -2,8 +2,8 @@
 ghost use mathlib.Core.Path.{_≡_};
 ghost use mathlib.Core.Bool.{true, false};
 ghost use Rattle.token.specs.Live.{bit, free-in, count-in, BitSet};
-use crate::Free;
-use crate::HandleNo;
+use deciding::Free;
+use deciding::HandleNo;
 
 // How many handles are live: the ones of the four words.
 pub fn count(live: [u64; 4]) -> u32

@@ -6,22 +6,22 @@ ghost use lib.ListN.{length};
 ghost use Rattle.rules.specs.State.{most-handles, most-terms};
 ghost use Rattle.token.specs.Shows.{seal-code};
 ghost use Rattle.token.specs.Views.{namesOf, inside, handleIn, lookupIn, aimOf, viewOf, Findable};
-use crate::Command;
-use crate::Entry;
-use crate::Handle;
-use crate::HandleNo;
 use crate::Hands;
-use crate::Lookup;
 use crate::Names;
-use crate::Slot;
 use crate::Table;
-use crate::TermNo;
-use crate::View;
-use crate::decide::key_of;
-use crate::decide::payload_no;
 use crate::find::find;
 use crate::live::free;
 use crate::live::is_live;
+use deciding::Command;
+use deciding::Entry;
+use deciding::Handle;
+use deciding::HandleNo;
+use deciding::Lookup;
+use deciding::Slot;
+use deciding::TermNo;
+use deciding::View;
+use deciding::decide::key_of;
+use deciding::decide::payload_no;
 
 fn names_of(command: Command) -> Names
     ensures { λ r. ⌜ r ≡ namesOf command ⌝ }

@@ -1,59 +1,55 @@
+-- `append_seal` meets its contract: the seal is appended and linked, and its leak followed where it leaks (ApiApply).
 use borrow.Author.Tests.{not-true, not-false}
-use Rattle.token.proofs.ApiApply.{seal-followable, seal-kept, seal-followed}
 use borrow.Author.Needs.{needs}
+use Rattle.token.proofs.ApiApply.{seal-followable, seal-kept, seal-followed}
 use Rattle.token.proofs.apply.append_seal.Statement.{statement}
 use Rattle.token.proofs.apply.append_seal.Tie as tie
-use Rattle.token.proofs.apply.append_seal.Reads as reads
-use Rattle.token.proofs.apply.append_seal.Lts as lts
-use Rattle.token.proofs.apply.append.Reads as append-reads
-use Rattle.token.proofs.apply.entry.Reads as entry-reads
-use Rattle.token.proofs.apply.link.Reads as link-reads
-use Rattle.token.proofs.decide.key_of.Reads as key-of-reads
-use Rattle.token.proofs.leaks.follow.Reads as follow-reads
 
--- src/apply.rt:110:17
 link-requires : tie.Need-link-requires
 link-requires c κs = search needs
 
--- src/apply.rt:111:32
 entry-requires : tie.Need-entry-requires
 entry-requires c κs = search needs
 
--- src/apply.rt:111:17
 append-requires : tie.Need-append-requires
 append-requires c κs = search needs
 
--- src/apply.rt:113:9
 returns : tie.Need-returns
 returns c =
-    seal-kept _ _ _ _ (c .before .before .entry .ensures) (c .before .append .ensures) (c .before .before .before .link .ensures) (not-true _ (c .if1 .taken))
+    let c1 = c .before in
+    let c2 = c1 .before in
+    let c3 = c2 .before in
+    seal-kept _ _ _ _ (c2 .entry .ensures) (c1 .append .ensures) (c3 .link .ensures) (not-true _ (c .if1 .taken))
 
--- src/apply.rt:119:31
 cast-inner : tie.Need-cast-inner
 cast-inner c = search needs
 
--- src/apply.rt:119:17
 mul-inner : tie.Need-mul-inner
 mul-inner c = search needs
 
--- src/apply.rt:119:17
 element-copy-out-inner : tie.Need-element-copy-out-inner
 element-copy-out-inner c = search needs
 
--- src/apply.rt:120:66
 key-of-requires : tie.Need-key-of-requires
 key-of-requires c κs = search needs
 
--- src/apply.rt:120:9
 follow-requires : tie.Need-follow-requires
 follow-requires c κs =
-    seal-followable _ _ _ _ (c .before .before .before .before .before .before .before .before .entry .ensures) (c .before .before .before .before .before .before .before .append .ensures) (c .before .before .before .before .before .before .before .before .before .link .ensures) (c .before .before .before .before .before .before .before .before .before .before .before .before .before .pre)
-    (not-false _ (c .before .before .before .before .before .before .if1 .left)) (c .key-of .ensures)
+    let c6 = c .before .before .before .before .before .before in
+    let c7 = c6 .before in
+    let c8 = c7 .before in
+    let c9 = c8 .before in
+    let c13 = c9 .before .before .before .before in
+    seal-followable _ _ _ _ (c8 .entry .ensures) (c7 .append .ensures) (c9 .link .ensures) (c13 .pre)
+    (not-false _ (c6 .if1 .left)) (c .key-of .ensures)
 
--- src/apply.rt:103:1
 returns-2 : tie.Need-returns-2
 returns-2 c =
-    seal-followed _ _ _ _ (c .before .before .before .before .before .before .before .before .before .entry .ensures) (c .before .before .before .before .before .before .before .before .append .ensures) (c .before .before .before .before .before .before .before .before .before .before .link .ensures) (not-false _ (c .before .before .before .before .before .before .before .if1 .left))
+    let c7 = c .before .before .before .before .before .before .before in
+    let c8 = c7 .before in
+    let c9 = c8 .before in
+    let c10 = c9 .before in
+    seal-followed _ _ _ _ (c9 .entry .ensures) (c8 .append .ensures) (c10 .link .ensures) (not-false _ (c7 .if1 .left))
     (c .follow .ensures)
 
 pub append-seal-spec : {M : Type 1} → statement M

@@ -1,103 +1,78 @@
+-- `link` meets its contract: one store in each of the five arrays.
 use native.Mathlib.Numerals.{add-one}
 use borrow.Author.Needs.{needs}
 use Rattle.token.proofs.apply.link.Statement.{statement}
 use Rattle.token.proofs.apply.link.Tie as tie
-use Rattle.token.proofs.apply.link.Reads as reads
-use Rattle.token.proofs.apply.link.Lts as lts
 
--- src/apply.rt:47:16
 cast-over : tie.Need-cast-over
 cast-over c = search needs
 
--- src/apply.rt:48:17
 cast-code : tie.Need-cast-code
 cast-code c = search needs
 
--- src/apply.rt:48:16
 mul-code : tie.Need-mul-code
 mul-code c = search needs
 
--- src/apply.rt:48:39
 cast-code-2 : tie.Need-cast-code-2
 cast-code-2 c = search needs
 
--- src/apply.rt:48:16
 add-code : tie.Need-add-code
 add-code c = search needs
 
--- src/apply.rt:48:16
 add-code-2 : tie.Need-add-code-2
 add-code-2 c = search needs
 
--- src/apply.rt:49:18
 cast-bucket : tie.Need-cast-bucket
 cast-bucket c = search needs
 
--- src/apply.rt:50:22
 mul-next : tie.Need-mul-next
 mul-next c = search needs
 
--- src/apply.rt:50:22
 element-copy-out-next : tie.Need-element-copy-out-next
 element-copy-out-next c = search needs
 
--- src/apply.rt:50:5
 mul-next-2 : tie.Need-mul-next-2
 mul-next-2 c = search needs
 
--- src/apply.rt:50:5
 element-write-next : tie.Need-element-write-next
 element-write-next c = search needs
 
--- src/apply.rt:51:25
 add-next : tie.Need-add-next
 add-next c = search needs
 
--- src/apply.rt:51:5
 mul-next-3 : tie.Need-mul-next-3
 mul-next-3 c = search needs
 
--- src/apply.rt:51:5
 element-write-next-2 : tie.Need-element-write-next-2
 element-write-next-2 c = search needs
 
--- src/apply.rt:52:22
 mul-next-4 : tie.Need-mul-next-4
 mul-next-4 c = search needs
 
--- src/apply.rt:52:22
 element-copy-out-next-2 : tie.Need-element-copy-out-next-2
 element-copy-out-next-2 c = search needs
 
--- src/apply.rt:52:5
 mul-next-5 : tie.Need-mul-next-5
 mul-next-5 c = search needs
 
--- src/apply.rt:52:5
 element-write-next-3 : tie.Need-element-write-next-3
 element-write-next-3 c = search needs
 
--- src/apply.rt:53:26
 add-next-2 : tie.Need-add-next-2
 add-next-2 c = search needs
 
--- src/apply.rt:53:5
 mul-next-6 : tie.Need-mul-next-6
 mul-next-6 c = search needs
 
--- src/apply.rt:53:5
 element-write-next-4 : tie.Need-element-write-next-4
 element-write-next-4 c = search needs
 
--- src/apply.rt:54:5
 mul-next-7 : tie.Need-mul-next-7
 mul-next-7 c = search needs
 
--- src/apply.rt:54:5
 element-write-next-5 : tie.Need-element-write-next-5
 element-write-next-5 c = search needs
 
--- src/apply.rt:39:1
 returns : tie.Need-returns
 returns c = simp add-one
 

@@ -1,14 +1,11 @@
+-- `lookup_in` meets its contract, by the two cases.
 use borrow.Author.Needs.{needs}
 use Rattle.token.proofs.look.lookup_in.Statement.{statement}
 use Rattle.token.proofs.look.lookup_in.Tie as tie
-use Rattle.token.proofs.look.lookup_in.Reads as reads
-use Rattle.token.proofs.look.lookup_in.Lts as lts
 
--- src/look.rt:81:1
 returns : tie.Need-returns
 returns c = rw (c .if1 .taken)
 
--- src/look.rt:81:1
 returns-2 : tie.Need-returns-2
 returns-2 c = search needs
 

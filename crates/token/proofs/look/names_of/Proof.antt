@@ -1,97 +1,76 @@
+-- `names_of` meets its contract: the numbers that each command names.
 use mathlib.Core.Path.{ap, sym}
-use Rattle.token.specs.Views.{namesOf}
 use borrow.Author.Needs.{needs}
+use Rattle.token.specs.Views.{namesOf}
 use Rattle.token.proofs.look.names_of.Statement.{statement}
 use Rattle.token.proofs.look.names_of.Tie as tie
-use Rattle.token.proofs.look.names_of.Reads as reads
-use Rattle.token.proofs.look.names_of.Lts as lts
 
--- src/look.rt:26:27
 enum-known-command : tie.Need-enum-known-command
 enum-known-command c = search needs
 
--- src/look.rt:32:23
 enum-known-command-2 : tie.Need-enum-known-command-2
 enum-known-command-2 c = search needs
 
--- src/look.rt:33:25
 enum-known-command-3 : tie.Need-enum-known-command-3
 enum-known-command-3 c = search needs
 
--- src/look.rt:34:26
 enum-known-command-4 : tie.Need-enum-known-command-4
 enum-known-command-4 c = search needs
 
--- src/look.rt:35:26
 enum-known-command-5 : tie.Need-enum-known-command-5
 enum-known-command-5 c = search needs
 
--- src/look.rt:36:26
 enum-known-command-6 : tie.Need-enum-known-command-6
 enum-known-command-6 c = search needs
 
--- src/look.rt:42:26
 enum-known-command-7 : tie.Need-enum-known-command-7
 enum-known-command-7 c = search needs
 
--- src/look.rt:48:28
 enum-told : tie.Need-enum-told
 enum-told c = search needs
 
--- src/look.rt:54:29
 enum-told-2 : tie.Need-enum-told-2
 enum-told-2 c = search needs
 
--- src/look.rt:60:23
 enum-known-command-8 : tie.Need-enum-known-command-8
 enum-known-command-8 c = search needs
 
--- src/look.rt:20:1
 returns : tie.Need-returns
 unfolding namesOf
 returns c = sym (ap namesOf (c .before .command .given .1))
 
--- src/look.rt:20:1
 returns-2 : tie.Need-returns-2
 unfolding namesOf
 returns-2 c = sym (ap namesOf (c .before .command2 .given .1))
 
--- src/look.rt:20:1
 returns-3 : tie.Need-returns-3
 unfolding namesOf
 returns-3 c = sym (ap namesOf (c .before .command3 .given .1))
 
--- src/look.rt:20:1
 returns-4 : tie.Need-returns-4
 unfolding namesOf
 returns-4 c = sym (ap namesOf (c .before .command4 .given .1))
 
--- src/look.rt:20:1
 returns-5 : tie.Need-returns-5
 unfolding namesOf
 returns-5 c = sym (ap namesOf (c .before .command5 .given .1))
 
--- src/look.rt:20:1
 returns-6 : tie.Need-returns-6
 unfolding namesOf
 returns-6 c = sym (ap namesOf (c .before .command6 .given .1))
 
--- src/look.rt:20:1
 returns-7 : tie.Need-returns-7
 unfolding namesOf
 returns-7 c = sym (ap namesOf (c .before .command7 .given .1))
 
--- src/look.rt:20:1
 returns-8 : tie.Need-returns-8
 unfolding namesOf
 returns-8 c = sym (ap namesOf (c .enum-told .given .1))
 
--- src/look.rt:20:1
 returns-9 : tie.Need-returns-9
 unfolding namesOf
 returns-9 c = sym (ap namesOf (c .enum-told2 .given .1))
 
--- src/look.rt:20:1
 returns-10 : tie.Need-returns-10
 unfolding namesOf
 returns-10 c = sym (ap namesOf (c .before .command8 .given .1))

@@ -1,5 +1,5 @@
--- A token that comes from a fresh one by earlier calls does so after the next call too: what a program that makes one call after
--- the other has to know. Rests on rules' Prefixes.
+-- A fresh token comes from a fresh one by no calls, and a token that comes from one by earlier calls does so after the next call too:
+-- what a program that makes one call after the other has to know. Rests on Shown and on rules' Prefixes.
 use Prim.Native.Nat.{ℕ, _≤_}
 use mathlib.Core.Path.{_≡_, refl, sym, subst}
 use mathlib.Core.Bool.{Bool, true, false}
@@ -9,10 +9,27 @@ use Rattle.rules.specs.Commands.{Command}
 use Rattle.rules.specs.State.{State, fresh}
 use Rattle.rules.specs.Runs.{Answer, Step, Run, ends, then, Reachable}
 use Rattle.rules.proofs.Prefixes.{run-append}
+use Rattle.sheets.specs.Sheets.{policy-number}
 use Rattle.token.specs.declared.Token.{Token}
 use Rattle.token.specs.declared.Called.{Called}
 use Rattle.token.specs.Shows.{Shows}
+use Rattle.token.specs.Known.{blank-token}
 use Rattle.token.specs.Direct.{not-a-call, ComesFrom, Reached, Refused1, SteppedBy, CallAnswer, Answered}
+use Rattle.token.proofs.Shown.{blank-shows}
+
+-- a fresh token comes from a fresh one, by no calls, under each policy
+pub reached-fresh : (p : Policy) → Reached blank-token (policy-number p)
+reached-fresh p =
+    record {
+      under = p;
+      state = fresh;
+      comes =
+          record {
+            reachable = record { commands = []; said = []; run = ends };
+            shown = blank-shows;
+            this-policy = λ low. refl;
+          };
+    }
 
 -- one more command from a reachable state leads to a reachable state
 pub reachable-next : {p : Policy} {s next : State} {c : Command} {a : Answer} → Reachable p s → Step p s c a next → Reachable p next

@@ -5,8 +5,8 @@ ghost use Prim.Native.Nat.{_<_};
 ghost use lib.ListN.{length};
 ghost use Rattle.rules.specs.State.{most-handles, most-terms};
 ghost use Rattle.token.specs.Shows.{blank-slot, entry as entryWith};
-ghost use Rattle.deciding.specs.declared.Change.the-variants.{NewSeal};
-ghost use Rattle.token.specs.Applied.{SlotSet, appended, linked, SealRoom, Applicable, Applied};
+ghost use Rattle.deciding.specs.declared.Change.the-variants.{NewKey, NewSeal, Know};
+ghost use Rattle.token.specs.Applied.{SlotSet, appended, linked, KeyRoom, SealRoom, KnowRoom, Applicable, Applied};
 use crate::Hands;
 use crate::Links;
 use crate::Table;
@@ -125,6 +125,44 @@ fn append_seal(token: Token, k: KeyNo, p: TermNo, leaks: bool) -> Token
     }
 }
 
+// A key is generated: it is appended, and handle h bound to it.
+fn new_key(token: Token, h: HandleNo, flags: u8) -> Token
+    requires { ⌜ KeyRoom token (h .0) ⌝ }
+    ensures { λ r. ⌜ Applied token (NewKey h flags) r ⌝ }
+{
+    let table = token.table;
+    let links = token.links;
+    let hands = token.hands;
+    let key = KeyNo(table.keys);
+    let slot = Slot {
+        key,
+        term: TermNo(table.terms),
+        flags,
+    };
+    Token {
+        table: append(table, entry(Term::Key(key), false, false)),
+        links,
+        hands: bound(hands, h, slot),
+    }
+}
+
+// Term p becomes known, and its leak is followed.
+fn know(token: Token, p: TermNo) -> Token
+    requires { ⌜ KnowRoom token (p .0) ⌝ }
+    ensures { λ r. ⌜ Applied token (Know p) r ⌝ }
+{
+    let table = token.table;
+    let links = token.links;
+    let hands = token.hands;
+    let known = table.entries[p.0 as usize];
+    let followed = follow(table, &links.newest, &links.older, p, key_of(known));
+    Token {
+        table: followed,
+        links,
+        hands,
+    }
+}
+
 pub fn apply(token: Token, change: Change) -> Token
     requires { ⌜ Applicable token change ⌝ }
     ensures { λ r. ⌜ Applied token change r ⌝ }
@@ -145,18 +183,7 @@ pub fn apply(token: Token, change: Change) -> Token
             links,
             hands: released(hands, h),
         },
-        Change::NewKey(h, flags) => {
-            let slot = Slot {
-                key: KeyNo(table.keys),
-                term: TermNo(table.terms),
-                flags,
-            };
-            Token {
-                table: append(table, entry(key, false, false)),
-                links,
-                hands: bound(hands, h, slot),
-            }
-        }
+        Change::NewKey(h, flags) => new_key(token, h, flags),
         Change::OwnKey => Token {
             table: append(table, entry(key, true, true)),
             links,
@@ -168,13 +195,6 @@ pub fn apply(token: Token, change: Change) -> Token
             hands,
         },
         Change::NewSeal(k, p, leaks) => append_seal(token, k, p, leaks),
-        Change::Know(p) => {
-            let known = table.entries[p.0 as usize];
-            Token {
-                table: follow(table, &links.newest, &links.older, p, key_of(known)),
-                links,
-                hands,
-            }
-        }
+        Change::Know(p) => know(token, p),
     }
 }

@@ -23,47 +23,28 @@ use deciding::View;
 use deciding::decide::key_of;
 use deciding::decide::payload_no;
 
+fn named(a: HandleNo, b: HandleNo, t: TermNo, u: TermNo) -> Names
+    ensures { λ r. ⌜ r ≡ record { a = a; b = b; t = t; u = u } ⌝ }
+{
+    Names { a, b, t, u }
+}
+
 fn names_of(command: Command) -> Names
     ensures { λ r. ⌜ r ≡ namesOf command ⌝ }
 {
     let h = HandleNo(0);
     let n = TermNo(0);
     match command {
-        Command::Generate(flags) => Names {
-            a: h,
-            b: h,
-            t: n,
-            u: n,
-        },
-        Command::Wrap(a, b) => Names { a, b, t: n, u: n },
-        Command::Unwrap(a, t, flags) => Names { a, b: h, t, u: n },
-        Command::Encrypt(a, t) => Names { a, b: h, t, u: n },
-        Command::Decrypt(a, t) => Names { a, b: h, t, u: n },
-        Command::Corrupt(a) => Names {
-            a,
-            b: h,
-            t: n,
-            u: n,
-        },
-        Command::Destroy(a) => Names {
-            a,
-            b: h,
-            t: n,
-            u: n,
-        },
-        Command::OwnKey => Names {
-            a: h,
-            b: h,
-            t: n,
-            u: n,
-        },
-        Command::OwnData => Names {
-            a: h,
-            b: h,
-            t: n,
-            u: n,
-        },
-        Command::Seal(t, u) => Names { a: h, b: h, t, u },
+        Command::Generate(flags) => named(h, h, n, n),
+        Command::Wrap(a, b) => named(a, b, n, n),
+        Command::Unwrap(a, t, flags) => named(a, h, t, n),
+        Command::Encrypt(a, t) => named(a, h, t, n),
+        Command::Decrypt(a, t) => named(a, h, t, n),
+        Command::Corrupt(a) => named(a, h, n, n),
+        Command::Destroy(a) => named(a, h, n, n),
+        Command::OwnKey => named(h, h, n, n),
+        Command::OwnData => named(h, h, n, n),
+        Command::Seal(t, u) => named(h, h, t, u),
     }
 }
 
@@ -137,33 +118,20 @@ pub fn look<'a>(
     let names = names_of(command);
     let live = hands.live;
     let terms = table.terms;
-    let a = names.a;
-    let b = names.b;
-    let t = names.t;
-    let u = names.u;
-    let slot_a = hands.slots[a.0 as usize];
-    let slot_b = hands.slots[b.0 as usize];
-    let at = place(t);
-    let entry_t = table.entries[at];
-    let beside = place(u);
-    let entry_u = table.entries[beside];
-    let below = place(payload_no(entry_t));
-    let payload = table.entries[below];
-    let over = place(slot_a.term);
-    let outer = table.entries[over];
-    let under = place(slot_b.term);
-    let inner = table.entries[under];
-    let equal = find(
-        heads,
-        chain,
-        codes,
-        aim_of(command, slot_a, slot_b, entry_t),
-    );
+    let slot_a = hands.slots[names.a.0 as usize];
+    let slot_b = hands.slots[names.b.0 as usize];
+    let entry_t = table.entries[place(names.t)];
+    let entry_u = table.entries[place(names.u)];
+    let payload = table.entries[place(payload_no(entry_t))];
+    let outer = table.entries[place(slot_a.term)];
+    let inner = table.entries[place(slot_b.term)];
+    let aim = aim_of(command, slot_a, slot_b, entry_t);
+    let equal = find(heads, chain, codes, aim);
     View {
-        a: handle_in(is_live(live, a), slot_a),
-        b: handle_in(is_live(live, b), slot_b),
-        t: lookup_in(t.0 < terms, entry_t),
-        u: lookup_in(u.0 < terms, entry_u),
+        a: handle_in(is_live(live, names.a), slot_a),
+        b: handle_in(is_live(live, names.b), slot_b),
+        t: lookup_in(names.t.0 < terms, entry_t),
+        u: lookup_in(names.u.0 < terms, entry_u),
         payload,
         outer,
         inner,

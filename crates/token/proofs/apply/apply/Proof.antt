@@ -25,30 +25,17 @@ released-requires c κs =
 enum-known-change-3 : tie.Need-enum-known-change-3
 enum-known-change-3 c = search needs
 
+new-key-requires : tie.Need-new-key-requires
+new-key-requires c κs = rw (c .before .change3 .given .1) at (c .before .before .before .before .before .before .pre)
+
+enum-told-2 : tie.Need-enum-told-2
+enum-told-2 c = search needs
+
 entry-requires : tie.Need-entry-requires
 entry-requires c κs = search needs
 
 append-requires : tie.Need-append-requires
 append-requires c κs =
-    let c2 = c .before .before in
-    let c7 = c2 .before .before .before .before .before in
-    let room = (rw (c2 .change3 .given .1) at (c7 .pre)) .for-term in
-    (room .few-terms, (room .few-keys, room .entries-length))
-
-bound-requires-2 : tie.Need-bound-requires-2
-bound-requires-2 c κs =
-    let c3 = c .before .before .before in
-    let c8 = c3 .before .before .before .before .before in
-    (rw (c3 .change3 .given .1) at (c8 .pre)) .for-handle .slots-length
-
-enum-told-2 : tie.Need-enum-told-2
-enum-told-2 c = search needs
-
-entry-requires-2 : tie.Need-entry-requires-2
-entry-requires-2 c κs = search needs
-
-append-requires-2 : tie.Need-append-requires-2
-append-requires-2 c κs =
     let c1 = c .before in
     let c6 = c1 .before .before .before .before .before in
     let room = (rw (c1 .enum-told2 .given .1) at (c6 .pre)) in (room .few-terms, (room .few-keys, room .entries-length))
@@ -56,11 +43,11 @@ append-requires-2 c κs =
 enum-told-3 : tie.Need-enum-told-3
 enum-told-3 c = search needs
 
-entry-requires-3 : tie.Need-entry-requires-3
-entry-requires-3 c κs = search needs
+entry-requires-2 : tie.Need-entry-requires-2
+entry-requires-2 c κs = search needs
 
-append-requires-3 : tie.Need-append-requires-3
-append-requires-3 c κs =
+append-requires-2 : tie.Need-append-requires-2
+append-requires-2 c κs =
     let c1 = c .before in
     let c6 = c1 .before .before .before .before .before in
     let room = (rw (c1 .enum-told3 .given .1) at (c6 .pre)) in (room .few-terms, (room .few-keys, room .entries-length))
@@ -75,24 +62,8 @@ append-seal-requires c κs =
 enum-known-change-5 : tie.Need-enum-known-change-5
 enum-known-change-5 c = search needs
 
-cast-known : tie.Need-cast-known
-cast-known c = search needs
-
-mul-known : tie.Need-mul-known
-mul-known c = search needs
-
-element-copy-out-known : tie.Need-element-copy-out-known
-element-copy-out-known c =
-    (rw (c .before .before .change5 .given .1) at (c .before .before .before .before .before .before .before .pre)) .inside
-
-key-of-requires : tie.Need-key-of-requires
-key-of-requires c κs = search needs
-
-follow-requires : tie.Need-follow-requires
-follow-requires c κs =
-    let c7 = c .before .before .before .before .before .before .before in
-    let c12 = c7 .before .before .before .before .before in
-    rw (c .key-of .ensures) ((rw (c7 .change5 .given .1) at (c12 .pre)) .followable)
+know-requires : tie.Need-know-requires
+know-requires c κs = rw (c .before .change5 .given .1) at (c .before .before .before .before .before .before .pre)
 
 returns : tie.Need-returns
 unfolding Applied
@@ -114,17 +85,7 @@ returns-3 c =
 
 returns-4 : tie.Need-returns-4
 unfolding Applied
-returns-4 c =
-    let c1 = c .before in
-    let c2 = c1 .before in
-    let c4 = c2 .before .before in
-    let c9 = c4 .before .before .before .before .before in
-    rw (c4 .change3 .given .1)
-    (record {
-      of-table = c1 .append .ensures ∙ ap (appended (c9 .args .token .table)) (c2 .entry .ensures);
-      of-links = refl;
-      of-hands = c .bound2 .ensures;
-    })
+returns-4 c = rw (c .before .before .change3 .given .1) (c .new-key .ensures)
 
 returns-5 : tie.Need-returns-5
 unfolding Applied
@@ -134,7 +95,7 @@ returns-5 c =
     let c7 = c2 .before .before .before .before .before in
     rw (c2 .enum-told2 .given .1)
     (record {
-      of-table = c .append2 .ensures ∙ ap (appended (c7 .args .token .table)) (c1 .entry2 .ensures);
+      of-table = c .append .ensures ∙ ap (appended (c7 .args .token .table)) (c1 .entry .ensures);
       of-links = refl;
       of-hands = refl;
     })
@@ -147,7 +108,7 @@ returns-6 c =
     let c7 = c2 .before .before .before .before .before in
     rw (c2 .enum-told3 .given .1)
     (record {
-      of-table = c .append3 .ensures ∙ ap (appended (c7 .args .token .table)) (c1 .entry3 .ensures);
+      of-table = c .append2 .ensures ∙ ap (appended (c7 .args .token .table)) (c1 .entry2 .ensures);
       of-links = refl;
       of-hands = refl;
     })
@@ -160,9 +121,7 @@ returns-7 c =
 
 returns-8 : tie.Need-returns-8
 unfolding Applied
-returns-8 c =
-    rw (c .before .before .before .before .before .before .before .before .change5 .given .1)
-    (record { of-table = c .follow .ensures; of-links = refl; of-hands = refl })
+returns-8 c = rw (c .before .before .change5 .given .1) (c .know .ensures)
 
 pub apply-spec : {M : Type 1} → statement M
 apply-spec =
@@ -174,23 +133,17 @@ apply-spec =
     enum-known-change-2
     released-requires
     enum-known-change-3
+    new-key-requires
+    enum-told-2
     entry-requires
     append-requires
-    bound-requires-2
-    enum-told-2
+    enum-told-3
     entry-requires-2
     append-requires-2
-    enum-told-3
-    entry-requires-3
-    append-requires-3
     enum-known-change-4
     append-seal-requires
     enum-known-change-5
-    cast-known
-    mul-known
-    element-copy-out-known
-    key-of-requires
-    follow-requires
+    know-requires
     returns
     returns-2
     returns-3

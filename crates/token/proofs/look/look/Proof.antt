@@ -81,8 +81,8 @@ aim-of-requires c κs = search needs
 find-requires : tie.Need-find-requires
 find-requires c κs =
     let c11 = c .before .before .before .before .before .before .before .before .before .before .before in
-    let c22 = c11 .before .before .before .before .before .before .before .before .before .before .before in
-    (c22 .pre .0, subst (λ (n : ℕ). 0 < n) (sym (c .aim-of .ensures)) (aim-positive _ _ _ _))
+    let c18 = c11 .before .before .before .before .before .before .before in
+    (c18 .pre .0, subst (λ (n : ℕ). 0 < n) (sym (c .aim-of .ensures)) (aim-positive _ _ _ _))
 
 is-live-requires : tie.Need-is-live-requires
 is-live-requires c κs = search needs
@@ -121,8 +121,8 @@ returns c =
     let c17 = c16 .before in
     let c19 = c17 .before .before in
     let c21 = c19 .before .before in
-    let c31 = c21 .before .before .before .before .before .before .before .before .before .before in
-    view-seen _ _ _ _ (c31 .names-of .ensures) (c21 .place .ensures .0) (c19 .place2 .ensures .0)
+    let c27 = c21 .before .before .before .before .before .before in
+    view-seen _ _ _ _ (c27 .names-of .ensures) (c21 .place .ensures .0) (c19 .place2 .ensures .0)
     (c17 .payload-no .ensures) (c16 .place3 .ensures .0) (c14 .place4 .ensures .0) (c12 .place5 .ensures .0)
     (c10 .aim-of .ensures) (c9 .find .ensures) (c8 .is-live .ensures) (c7 .handle-in .ensures) (c6 .is-live2 .ensures)
     (c5 .handle-in2 .ensures) (c3 .lookup-in .ensures) (c1 .lookup-in2 .ensures) (c .free .ensures)

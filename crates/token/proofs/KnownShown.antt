@@ -108,7 +108,7 @@ key-shown s (some (seal j m)) k e = cc
 
 module _ {t : Token} {s : State} (shown : Shows t s) where
   -- a key's entry stands inside the table
-  key-inside : (i k : ℕ) → getD (t .table .entries) i blank-entry .term ≡ Key (record { 0 = k }) → i < most-terms
+  pub key-inside : (i k : ℕ) → getD (t .table .entries) i blank-entry .term ≡ Key (record { 0 = k }) → i < most-terms
   key-inside i k e =
       bool-cases (ltb i most-terms) (λ (q : ltb i most-terms ≡ true). ltb-true _ _ q)
       (λ (q : ltb i most-terms ≡ false).
@@ -118,7 +118,7 @@ module _ {t : Token} {s : State} (shown : Shows t s) where
       absurd (let z : _≡_ {A = ℕ} 0 1 = cc (ap (λ (x : Entry). x .term) b) in omega arith))
 
   -- and its number in the table is the key's
-  key-at : (i k : ℕ) → getD (t .table .entries) i blank-entry .term ≡ Key (record { 0 = k }) → getElem? (s .now .table) i ≡ some (key k)
+  pub key-at : (i k : ℕ) → getD (t .table .entries) i blank-entry .term ≡ Key (record { 0 = k }) → getElem? (s .now .table) i ≡ some (key k)
   unfolding entry-of
   key-at i k e =
       key-shown s (getElem? (s .now .table) i) k

@@ -59,4 +59,5 @@ pub mod CallShown
 pub mod Going
 pub mod CallsRun
 pub mod KnownShown
+pub mod TellsShown
 pub mod Demands

@@ -49,6 +49,12 @@ pub enum Command {
     Seal(TermNo, TermNo),
 }
 
+// An entry of a sheet: the command number that it names, and the command that it states.
+pub struct SheetEntry {
+    pub number: u8,
+    pub command: Command,
+}
+
 // A command number and a body, read.
 pub enum Parsed {
     Known(Command),

@@ -8,11 +8,11 @@ mod look;
 
 ghost use Rattle.token.specs.Direct.{Reached, Answered, StepAsks, Stepped};
 use apply::apply;
-use deciding::Command;
 use deciding::Entry;
 use deciding::HandleNo;
 use deciding::KeyNo;
 use deciding::Parsed;
+use deciding::SheetEntry;
 use deciding::Slot;
 use deciding::TermNo;
 use deciding::decide::decide;
@@ -77,11 +77,12 @@ pub enum Origin {
     NoKey,
 }
 
-// One command on a token, under a policy of document 01.
-fn step(token: Token, policy: u8, command: Command) -> Called
-    requires { ⌜ StepAsks token policy command ⌝ }
-    ensures { λ r. ⌜ Stepped token policy command r ⌝ }
+// The command of one entry on a token, under a policy of document 01.
+fn step(token: Token, policy: u8, entry: SheetEntry) -> Called
+    requires { ⌜ StepAsks token policy (entry .command) ⌝ }
+    ensures { λ r. ⌜ Stepped token policy (entry .command) r ⌝ }
 {
+    let command = entry.command;
     let table = token.table;
     let links = token.links;
     let hands = token.hands;
@@ -123,5 +124,5 @@ pub fn call(token: Token, policy: u8, number: u8, body: &[u8]) -> Called
             value: 0,
         };
     };
-    step(token, policy, command)
+    step(token, policy, SheetEntry { number, command })
 }

@@ -44,9 +44,10 @@ unfoldable pub slot-for : List Term → Handle → Slot
 slot-for table dead = blank-slot
 slot-for table (live k f) = record { key = record { 0 = k }; term = record { 0 = number-of table (key k) }; flags = f }
 
--- the code of a seal, which no other seal has, and 0 for every other term; it is at most 2 ^ 20
+-- the code of a seal, which no other seal has, and 0 for every other term. It is 1025 and not 1024 so that a seal's bucket, its code
+-- modulo 1024, turns on the key as well as on the payload
 abbrev pub seal-code : (k p : ℕ) → ℕ
-seal-code k p = suc (k * 1024 + p)
+seal-code k p = suc (k * 1025 + p)
 
 unfoldable pub code-of : Kind → ℕ
 code-of Data = 0

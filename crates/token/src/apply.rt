@@ -80,7 +80,7 @@ fn link(links: Links, i: u16, k: KeyNo, p: TermNo) -> Links
     let mut next = links;
     let at = i as usize;
     let over = k.0 as usize;
-    let code = (k.0 as u32) * 1024 + (p.0 as u32) + 1;
+    let code = (k.0 as u32) * 1025 + (p.0 as u32) + 1;
     let bucket = (code % 1024) as usize;
     next.older[at] = next.newest[over];
     next.newest[over] = i + 1;

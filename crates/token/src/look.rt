@@ -79,7 +79,7 @@ fn lookup_in(there: bool, entry: Entry) -> Lookup
 fn code(k: u16, p: u16) -> u32
     ensures { λ r. ⌜ r ≡ seal-code k p ⌝ }
 {
-    (k as u32) * 1024 + (p as u32) + 1
+    (k as u32) * 1025 + (p as u32) + 1
 }
 
 // The code of the seal that the command would make.

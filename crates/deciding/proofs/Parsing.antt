@@ -1,11 +1,13 @@
 -- What a command number and a body state, by the tests that the code asks. Assumes nothing.
-use mathlib.Core.Path.{_≡_, refl}
+use mathlib.Core.Path.{_≡_, refl, sym, _∙_}
 use mathlib.Core.Bool.{true, false, or-true}
 use mathlib.Core.List.{List}
 use Prim.Native.Nat.{ℕ, zero, suc, _<_, _≤_}
 use native.Mathlib.Omega.{arith}
-use borrow.Author.Tests.{lt-ltb, le-ltb, eq-eqb, ne-eqb}
-use lib.ListN.{length}
+use borrow.Author.Tests.{lt-ltb, le-ltb, eq-eqb, ne-eqb, leb-true, leb-false}
+use lib.Dec.{leb}
+use lib.ListN.{length, getD, List·getD-eq-default}
+use Rattle.terms.proofs.Lists.{bool-cases}
 use Rattle.sheets.specs.Faults.{known-number, body-length, body-lengths}
 use Rattle.sheets.specs.Reading.{read-command}
 use Rattle.deciding.specs.declared.Parsed.the-variants.{Known, Unknown}
@@ -25,6 +27,21 @@ up-to-10-known : (number : ℕ) → (number ≡ 0 → ⊥) → number ≤ 10 →
 unfolding known-number body-lengths
 up-to-10-known zero f h = absurd (f refl)
 up-to-10-known (suc n) f h = lt-ltb n 10 (omega arith)
+
+pub zero-unknown : (number : ℕ) → number ≡ 0 → known-number number ≡ false
+unfolding known-number
+zero-unknown number e = rw e
+
+pub known-to-10 : (number : ℕ) → (number ≡ 0 → ⊥) → leb number 10 ≡ known-number number
+known-to-10 number f =
+    bool-cases (leb number 10) (λ e. e ∙ sym (up-to-10-known number f (leb-true number 10 e)))
+    (λ e. e ∙ sym (above-unknown number (leb-false number 10 e)))
+
+-- a number of no command has no body
+pub above-empty : (number : ℕ) → 10 < number → body-length number ≡ 0
+unfolding body-length body-lengths
+above-empty zero h = refl
+above-empty (suc n) h = let past : 10 ≤ n = omega arith in List·getD-eq-default body-lengths 0 past
 
 -- a number that is not 0 and none of 1 to k is above k
 abbrev NoneTo : ℕ → ℕ → Type 0

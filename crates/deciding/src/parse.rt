@@ -3,6 +3,7 @@ ghost use mathlib.Core.Path.{_≡_};
 ghost use Prim.Native.Nat.{_<_, _+_};
 ghost use lib.ListN.{length};
 ghost use Rattle.sheets.specs.Bytes.{two-at};
+ghost use Rattle.sheets.specs.Faults.{known-number, body-length};
 ghost use Rattle.deciding.specs.Commands.{parsed};
 use crate::Command;
 use crate::HandleNo;
@@ -18,6 +19,26 @@ fn term_at(body: &[u8], at: usize) -> TermNo
     let high = body[at] as u16;
     let low = body[at + 1] as u16;
     TermNo(high * 256 + low)
+}
+
+// Is this the number of a command?
+pub fn known_number(number: u8) -> bool
+    ensures { λ r. ⌜ r ≡ known-number number ⌝ }
+{
+    if number == 0 {
+        return false;
+    }
+    number <= 10
+}
+
+// The length of a command's body, by command number; 0 for a number of no command.
+pub fn body_length(number: u8) -> usize
+    ensures { λ r. ⌜ r ≡ body-length number ⌝ }
+{
+    if 10 < number {
+        return 0;
+    }
+    length_of(number)
 }
 
 pub fn parse(number: u8, body: &[u8]) -> Parsed

@@ -68,7 +68,7 @@ row P (suc k) rows zero h = rows .0
 row P (suc k) rows (suc j) h = row (λ i. P (suc i)) k (rows .1) j (le-of-suc-le-suc h)
 
 -- what holds for each of the ten numbers holds for every known number
-by-number : (P : ℕ → Type 0) → P 1 → P 2 → P 3 → P 4 → P 5 → P 6 → P 7 → P 8 → P 9 → P 10 → (n : ℕ) → known-number n ≡ true → P n
+pub by-number : (P : ℕ → Type 0) → P 1 → P 2 → P 3 → P 4 → P 5 → P 6 → P 7 → P 8 → P 9 → P 10 → (n : ℕ) → known-number n ≡ true → P n
 unfolding known-number body-lengths
 by-number P p1 p2 p3 p4 p5 p6 p7 p8 p9 p10 zero e = absurd (false≢true e)
 by-number P p1 p2 p3 p4 p5 p6 p7 p8 p9 p10 (suc j) e =

@@ -77,11 +77,11 @@ entry-exactly s i = (there, back)
         both-false _ _ (both-false _ _ (ap not (f .known)) (ap not (eq-eqb _ _ (f .in-place)))) (le-ltb _ _ (f .inside))
 
 -- the places from 1 to n are those of the entries, and n + 1 is that of the bytes that follow
-fault-at-entry : (s : List ℕ) (i : ℕ) → i < count s → fault-at s (suc i) ≡ entry-fault s i
+pub fault-at-entry : (s : List ℕ) (i : ℕ) → i < count s → fault-at s (suc i) ≡ entry-fault s i
 unfolding fault-at
 fault-at-entry s i h = ap (λ (b : Bool). cond b (entry-fault s i) (bytes-follow s)) (lt-ltb i (count s) h)
 
-fault-at-end : (s : List ℕ) (i : ℕ) → count s ≤ i → fault-at s (suc i) ≡ bytes-follow s
+pub fault-at-end : (s : List ℕ) (i : ℕ) → count s ≤ i → fault-at s (suc i) ≡ bytes-follow s
 unfolding fault-at
 fault-at-end s i h = ap (λ (b : Bool). cond b (entry-fault s i) (bytes-follow s)) (le-ltb i (count s) h)
 

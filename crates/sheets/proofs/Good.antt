@@ -22,7 +22,7 @@ use Rattle.sheets.proofs.Faultless.{EntryFaultless, Faultless, none-fau
 use Rattle.sheets.proofs.Walks.{Walk, command-at, walk-on, walk-back, command-holdable, walk-end, walk-reads}
 
 -- a policy is read from its number, which is at most 2, and such a number is that of the policy read from it
-policy-read : (p : Policy) → read-policy (policy-number p) ≡ p
+pub policy-read : (p : Policy) → read-policy (policy-number p) ≡ p
 unfolding read-policy policy-number
 policy-read plain = refl
 policy-read stp = refl
@@ -34,7 +34,7 @@ policy-below plain = omega arith
 policy-below stp = omega arith
 policy-below stp+ = omega arith
 
-policy-written : (b : ℕ) → b ≤ 2 → policy-number (read-policy b) ≡ b
+pub policy-written : (b : ℕ) → b ≤ 2 → policy-number (read-policy b) ≡ b
 unfolding read-policy policy-number
 policy-written zero h = refl
 policy-written (suc zero) h = refl
@@ -47,7 +47,7 @@ contents-length offset [] = refl
 contents-length offset (c ∷ cs) = omega (arith, contents-length (offset + length (body-bytes c)) cs)
 
 -- what a sheet begins with, and the walk from its first entry
-record Begins (s : List ℕ) (p : Policy) (cs : List Command) : Type 0 where
+pub record Begins (s : List ℕ) (p : Policy) (cs : List Command) : Type 0 where
   pub has-header : header-length ≤ length s
   pub policy : byte-at s 0 ≡ policy-number p
   pub counted : count s ≡ length cs
@@ -78,7 +78,7 @@ begins p cs =
       };
     }
 
-sheet-begins : {s : List ℕ} {p : Policy} {cs : List Command} → Sheet s p cs → Begins s p cs
+pub sheet-begins : {s : List ℕ} {p : Policy} {cs : List Command} → Sheet s p cs → Begins s p cs
 sheet-begins {p} {cs} sheet = subst (λ (l : List ℕ). Begins l p cs) (sym (sheet .bytes)) (begins p cs)
 
 -- a sheet is as long as its header, its table and its bodies

@@ -12,7 +12,7 @@ use Rattle.sheets.specs.Reports.{records-bytes, keys-bytes, report-bytes
 use Rattle.sheets.proofs.Each.{Each, each-nil, each-cons, each-append, each-head, each-tail}
 use Rattle.sheets.proofs.Bytes.{two-at-front, two-bytes}
 
-records-length : (said : List Answer) → length (records-bytes said) ≡ 3 * length said
+pub records-length : (said : List Answer) → length (records-bytes said) ≡ 3 * length said
 unfolding records-bytes two
 records-length [] = refl
 records-length (a ∷ said) = omega (arith, records-length said)

@@ -1,6 +1,6 @@
 -- The view that is read piece by piece is the view of the token's parts. Rests on specs/Views.antt.
 use Prim.Native.Nat.{ℕ, _<_}
-use mathlib.Core.Path.{_≡_, refl}
+use mathlib.Core.Path.{_≡_, refl, _∙_}
 use mathlib.Core.Bool.{Bool}
 use mathlib.Core.List.{List}
 use native.Mathlib.Omega.{arith}
@@ -23,7 +23,7 @@ use Rattle.deciding.specs.declared.Command.the-variants.{OwnKey, OwnData, Seal}
 use Rattle.token.specs.Live.{bit, free-in}
 use Rattle.token.specs.Shows.{blank-entry, blank-slot}
 use Rattle.deciding.specs.Decisions.{payloadNo}
-use Rattle.token.specs.Views.{namesOf, inside, handleIn, lookupIn, aimOf, equalIn, viewOf}
+use Rattle.token.specs.Views.{seenIn, namesOf, inside, handleIn, lookupIn, aimOf, equalIn, viewOf}
 
 -- a seal's code is above 0
 pub aim-positive : (c : Command) (a b : Slot) (t : Entry) → 0 < aimOf c a b t
@@ -85,3 +85,32 @@ pub view-seen : (table : Table) (hands : Hands) (codes : List ℕ) (c : Command)
 unfolding viewOf
 view-seen table hands codes c en e-at e-beside e-p e-below e-over e-under e-code e-equal e-is-a e-a e-is-b e-b e-t e-u e-free =
     rw (e-a, e-b, e-is-a, e-is-b, e-t, e-u, e-below, e-over, e-under, e-p, e-equal, e-code, e-free, e-at, e-beside, en)
+
+-- the same, made of what was read
+pub view-of-seen : (table : Table) (hands : Hands) (codes : List ℕ) (c : Command)
+    → {n : Names}
+    → n ≡ namesOf c
+    → {at beside : ℕ}
+    → at ≡ inside (n .t .0)
+    → beside ≡ inside (n .u .0)
+    → {p : TermNo}
+    → p ≡ payloadNo (getD (table .entries) at blank-entry .term)
+    → {below over under : ℕ}
+    → below ≡ inside (p .0)
+    → over ≡ inside (getD (hands .slots) (n .a .0) blank-slot .term .0)
+    → under ≡ inside (getD (hands .slots) (n .b .0) blank-slot .term .0)
+    → {code : ℕ}
+    → code
+    ≡ aimOf c (getD (hands .slots) (n .a .0) blank-slot) (getD (hands .slots) (n .b .0) blank-slot)
+    (getD (table .entries) at blank-entry)
+    → {equal : Equal}
+    → equal ≡ equalIn codes code
+    → {v : View}
+    → v
+    ≡ seenIn n (hands .live) (getD (hands .slots) (n .a .0) blank-slot) (getD (hands .slots) (n .b .0) blank-slot)
+    (getD (table .entries) at blank-entry) (getD (table .entries) beside blank-entry) (getD (table .entries) below blank-entry)
+    (getD (table .entries) over blank-entry) (getD (table .entries) under blank-entry) equal (table .terms)
+    → v ≡ viewOf table hands codes c
+unfolding viewOf seenIn
+view-of-seen table hands codes c en e-at e-beside e-p e-below e-over e-under e-code e-equal e-v =
+    e-v ∙ rw (e-below, e-over, e-under, e-p, e-equal, e-code, e-at, e-beside, en)

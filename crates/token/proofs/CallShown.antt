@@ -27,7 +27,7 @@ use Rattle.token.specs.declared.Called.{Called}
 use Rattle.token.specs.Direct.{commandOf, parsedIf, no-command, parsed, not-a-call, Reached, ComesFrom, StepAsks, Stepped, CallAnswer, Answered}
 
 -- a list whose every place holds a number below 256 is of bytes
-bytes-of : (s : List ℕ) → ((i : ℕ) → getD s i 0 < 256) → Bytes s
+pub bytes-of : (s : List ℕ) → ((i : ℕ) → getD s i 0 < 256) → Bytes s
 bytes-of s below x h =
     let r = in-at h in
     let e : getD s (r .0) 0 ≡ x = at-getD s (r .0) 0 (r .1) in

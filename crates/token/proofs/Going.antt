@@ -18,18 +18,16 @@ use Rattle.token.specs.Direct.{not-a-call, ComesFrom, Reached, Refused1,
 use Rattle.token.proofs.Shown.{blank-shows}
 
 -- a fresh token comes from a fresh one, by no calls, under each policy
-pub reached-fresh : (p : Policy) → Reached blank-token (policy-number p)
-reached-fresh p =
+pub comes-fresh : (p : Policy) → ComesFrom blank-token (policy-number p) p fresh
+comes-fresh p =
     record {
-      under = p;
-      state = fresh;
-      comes =
-          record {
-            reachable = record { commands = []; said = []; run = ends };
-            shown = blank-shows;
-            this-policy = λ low. refl;
-          };
+      reachable = record { commands = []; said = []; run = ends };
+      shown = blank-shows;
+      this-policy = λ low. refl;
     }
+
+pub reached-fresh : (p : Policy) → Reached blank-token (policy-number p)
+reached-fresh p = record { under = p; state = fresh; comes = comes-fresh p }
 
 -- one more command from a reachable state leads to a reachable state
 pub reachable-next : {p : Policy} {s next : State} {c : Command} {a : Answer} → Reachable p s → Step p s c a next → Reachable p next

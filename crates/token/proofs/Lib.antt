@@ -55,8 +55,12 @@ pub mod ApiApply
 pub mod ApiKnown
 pub mod ApiWritten
 pub mod StepShown
+pub mod RecordsWritten
+pub mod Stored
+pub mod Advancing
 pub mod CallShown
 pub mod Going
+pub mod RunShown
 pub mod CallsRun
 pub mod KnownShown
 pub mod TellsShown

@@ -8,3 +8,6 @@ pub mod Leaks
 pub mod Applied
 pub mod Known
 pub mod Direct
+pub mod Stores
+pub mod Advance
+pub mod Run

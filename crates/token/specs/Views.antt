@@ -111,3 +111,19 @@ viewOf table hands codes c =
       free = free-in (hands .live);
       terms = table .terms;
     }
+
+-- the view, of what was read
+unfoldable pub seenIn : Names → (live : List ℕ) → (a b : Slot) → (t u payload outer inner : Entry) → Equal → (terms : ℕ) → View
+seenIn names live a b t u payload outer inner equal terms =
+    record {
+      a = handleIn (bit live (names .a .0)) a;
+      b = handleIn (bit live (names .b .0)) b;
+      t = lookupIn (ltb (names .t .0) terms) t;
+      u = lookupIn (ltb (names .u .0) terms) u;
+      payload = payload;
+      outer = outer;
+      inner = inner;
+      equal = equal;
+      free = free-in live;
+      terms = terms;
+    }

@@ -1,10 +1,12 @@
 // The symbolic token: its parts by value, and the direct call. What each part shows of document 01's state is said in specs/Shows.antt.
+mod advance;
 mod apply;
 mod find;
 pub mod known;
 mod leaks;
 mod live;
 mod look;
+pub mod running;
 
 ghost use Rattle.token.specs.Direct.{Reached, Answered, StepAsks, Stepped};
 use apply::apply;
@@ -18,6 +20,7 @@ use deciding::TermNo;
 use deciding::decide::decide;
 use deciding::parse::parse;
 use look::look;
+use reader::Checked;
 
 // The terms by number, and how many terms and keys there are. Past the last term every entry is blank.
 pub struct Table {
@@ -57,11 +60,32 @@ pub struct Names {
     pub u: TermNo,
 }
 
+// The slot that a change stores, and the live words that it leaves.
+pub struct SlotPut {
+    pub number: HandleNo,
+    pub slot: Slot,
+    pub live: [u64; 4],
+}
+
+// The entry that a change stores, and the counts that it leaves.
+pub struct EntryPut {
+    pub at: usize,
+    pub entry: Entry,
+    pub terms: u16,
+    pub keys: u16,
+}
+
 // What the direct call gives back.
 pub struct Called {
     pub token: Token,
     pub answer: u8,
     pub value: u16,
+}
+
+// What running a sheet leaves: what the sheet was found to be, and the token at the end.
+pub struct Ran {
+    pub checked: Checked,
+    pub token: Token,
 }
 
 // The list of known keys in a buffer: so many were written, or the buffer is too short.

@@ -29,7 +29,7 @@ fn named(a: HandleNo, b: HandleNo, t: TermNo, u: TermNo) -> Names
     Names { a, b, t, u }
 }
 
-fn names_of(command: Command) -> Names
+pub fn names_of(command: Command) -> Names
     ensures { λ r. ⌜ r ≡ namesOf command ⌝ }
 {
     let h = HandleNo(0);
@@ -49,14 +49,14 @@ fn names_of(command: Command) -> Names
 }
 
 // A term number as a place in the table, 0 where it is past the end.
-fn place(t: TermNo) -> usize
+pub fn place(t: TermNo) -> usize
     ensures { λ r. ⌜ r ≡ inside (t .0) ⌝ }
     ensures { λ r. ⌜ r < most-terms ⌝ }
 {
     if t.0 < 1024 { t.0 as usize } else { 0 }
 }
 
-fn handle_in(live: bool, slot: Slot) -> Handle
+pub fn handle_in(live: bool, slot: Slot) -> Handle
     ensures { λ r. ⌜ r ≡ handleIn live slot ⌝ }
 {
     if live {
@@ -66,7 +66,7 @@ fn handle_in(live: bool, slot: Slot) -> Handle
     }
 }
 
-fn lookup_in(there: bool, entry: Entry) -> Lookup
+pub fn lookup_in(there: bool, entry: Entry) -> Lookup
     ensures { λ r. ⌜ r ≡ lookupIn there entry ⌝ }
 {
     if there {
@@ -76,14 +76,14 @@ fn lookup_in(there: bool, entry: Entry) -> Lookup
     }
 }
 
-fn code(k: u16, p: u16) -> u32
+pub fn code(k: u16, p: u16) -> u32
     ensures { λ r. ⌜ r ≡ seal-code k p ⌝ }
 {
     (k as u32) * 1025 + (p as u32) + 1
 }
 
 // The code of the seal that the command would make.
-fn aim_of(command: Command, a: Slot, b: Slot, t: Entry) -> u32
+pub fn aim_of(command: Command, a: Slot, b: Slot, t: Entry) -> u32
     ensures { λ r. ⌜ r ≡ aimOf command a b t ⌝ }
 {
     let outer = a.key;

@@ -1,0 +1,2 @@
+-- What reading a sheet gives.
+pub mod Reader

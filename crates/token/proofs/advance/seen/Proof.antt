@@ -1,0 +1,50 @@
+-- `seen` meets its contract.
+use Rattle.token.specs.Views.{seenIn}
+use borrow.Author.Needs.{needs}
+use mathlib.Core.Path.{_≡_, refl, sym, ap, _∙_}
+use Rattle.token.specs.Views.{seenIn}
+use borrow.Author.Needs.{needs}
+use mathlib.Core.Path.{_≡_, refl, sym, ap, _∙_}
+use borrow.Author.Needs.{needs}
+use Rattle.token.proofs.advance.seen.Statement.{statement}
+use Rattle.token.proofs.advance.seen.Tie as tie
+
+-- `seen` meets its contract.
+
+is-live-requires : tie.Need-is-live-requires
+is-live-requires c κs = search needs
+
+handle-in-requires : tie.Need-handle-in-requires
+handle-in-requires c κs = search needs
+
+is-live-requires-2 : tie.Need-is-live-requires-2
+is-live-requires-2 c κs = search needs
+
+handle-in-requires-2 : tie.Need-handle-in-requires-2
+handle-in-requires-2 c κs = search needs
+
+lookup-in-requires : tie.Need-lookup-in-requires
+lookup-in-requires c κs = search needs
+
+lookup-in-requires-2 : tie.Need-lookup-in-requires-2
+lookup-in-requires-2 c κs = search needs
+
+free-requires : tie.Need-free-requires
+free-requires c κs = search needs
+
+returns : tie.Need-returns
+unfolding seenIn
+returns c = rw (c .before .before .before .before .before .before .before .handle-in .ensures, c .before .before .before .before .before .before .before .before .is-live .ensures, c .before .before .before .before .before .handle-in2 .ensures, c .before .before .before .before .before .before .is-live2 .ensures, c .before .before .before .lookup-in .ensures, c .before .lookup-in2 .ensures, c .free .ensures)
+
+pub seen-spec : {M : Type 1} → statement M
+seen-spec =
+    tie.close
+    (tie.spec
+    is-live-requires
+    handle-in-requires
+    is-live-requires-2
+    handle-in-requires-2
+    lookup-in-requires
+    lookup-in-requires-2
+    free-requires
+    returns)

@@ -3,7 +3,7 @@ use Prim.Native.Nat.{ℕ, zero, suc}
 use mathlib.Core.Path.{_≡_, refl, sym, subst}
 use mathlib.Core.Logic.{⊎-elim}
 use mathlib.Core.List.{List, [], _∷_, _++_, List·Memᴰ·head, List·Memᴰ·tail, List·Memᴰ·not-nil, List·Memᴰ·cases-cons}
-use mathlib.Core.List.{Memᴰ·append-right, List·Memᴰ·append-cases}
+use mathlib.Core.List.{Memᴰ·append-left, Memᴰ·append-right, List·Memᴰ·append-cases}
 use lib.ListN.{replicate, take, drop, take-append-drop}
 use Rattle.terms.specs.Lists.{_∈_}
 
@@ -33,3 +33,6 @@ module _ {A : Type 0} (P : A → Type 0) where
 
   pub each-drop : (n : ℕ) (l : List A) → Each P l → Each P (drop n l)
   each-drop n l each x m = each x (subst (λ (k : List A). x ∈ k) (take-append-drop n l) (Memᴰ·append-right (take n l) m))
+
+  pub each-take : (n : ℕ) (l : List A) → Each P l → Each P (take n l)
+  each-take n l each x m = each x (subst (λ (k : List A). x ∈ k) (take-append-drop n l) (Memᴰ·append-left (drop n l) m))

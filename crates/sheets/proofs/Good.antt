@@ -41,7 +41,7 @@ policy-written (suc zero) h = refl
 policy-written (suc (suc b)) h = omega arith
 
 -- each entry has three bytes
-contents-length : (offset : ℕ) (cs : List Command) → length (contents offset cs) ≡ entry-length * length cs
+pub contents-length : (offset : ℕ) (cs : List Command) → length (contents offset cs) ≡ entry-length * length cs
 unfolding contents two
 contents-length offset [] = refl
 contents-length offset (c ∷ cs) = omega (arith, contents-length (offset + length (body-bytes c)) cs)

@@ -29,7 +29,7 @@ at-most-biggest (x ∷ l) zero = omega arith
 at-most-biggest (x ∷ l) (suc n) = omega (arith, at-most-biggest l n)
 
 -- no body is longer than four bytes
-body-most : (n : ℕ) → body-length n ≤ 4
+pub body-most : (n : ℕ) → body-length n ≤ 4
 unfolding body-length body-lengths biggest
 body-most zero = omega arith
 body-most (suc n) = at-most-biggest body-lengths n

@@ -234,11 +234,13 @@ impl Token {
         self.terms.message(term).ok_or(Refusal::NoSuchTerm)
     }
 
-    /// The lowest number not live.
+    /// The lowest number not live: the first that the live ones, ascending, leave out.
     fn free_handle(&self) -> Result<HandleNumber, Refusal> {
-        let mut numbers = (0..=255).map(HandleNumber);
-        let free = numbers.find(|number| !self.handles.contains_key(number));
-        free.ok_or(Refusal::NoFreeHandle)
+        require(self.handles.len() < MOST_HANDLES, Refusal::NoFreeHandle)?;
+        let mut in_order = self.handles.keys().zip((0..=255).map(HandleNumber));
+        let gap = in_order.find(|&(&live, number)| live != number);
+        let last = HandleNumber(self.handles.len() as u8);
+        Ok(gap.map_or(last, |(_, number)| number))
     }
 }
 

@@ -1,0 +1,2 @@
+-- What the calls from C promise.
+pub mod Replied

@@ -64,4 +64,5 @@ pub mod RunShown
 pub mod CallsRun
 pub mod KnownShown
 pub mod TellsShown
+pub mod RunTold
 pub mod Demands

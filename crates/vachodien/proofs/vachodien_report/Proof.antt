@@ -5,8 +5,9 @@ use mathlib.Core.Path.{_≡_, sym}
 use native.Mathlib.Omega.{arith}
 use borrow.Author.Needs.{needs}
 use lib.ListN.{length-replicate}
+use Rattle.token.proofs.RunTold.{records-kept, few-commands}
 use Rattle.vachodien.proofs.Numbers.{report-number, short-number}
-use Rattle.vachodien.proofs.SheetReplied.{run-length, few-commands, malformed-called, good-called}
+use Rattle.vachodien.proofs.SheetReplied.{malformed-called, good-called}
 use Rattle.vachodien.proofs.vachodien_report.Statement.{statement}
 use Rattle.vachodien.proofs.vachodien_report.Tie as tie
 
@@ -26,14 +27,14 @@ enum-known-checked-2 : tie.Need-enum-known-checked-2
 enum-known-checked-2 c = search needs
 
 slice-aggregate-report : tie.Need-slice-aggregate-report
-slice-aggregate-report c = sym (run-length (c .before .before .before .before .before .run .ensures) (length-replicate {A = ℕ} 12288 0))
+slice-aggregate-report c = sym (records-kept (c .before .before .before .before .before .run .ensures) (length-replicate {A = ℕ} 12288 0))
 
 report-requires : tie.Need-report-requires
 report-requires c κs =
     let c3 = c .before .before .before in
     let c6 = c3 .before .before .before in
     let few = few-commands (c6 .run .ensures) (c3 .checked2 .given .1) in
-    (few, omega (arith, few, run-length (c6 .run .ensures) (length-replicate {A = ℕ} 12288 0)))
+    (few, omega (arith, few, records-kept (c6 .run .ensures) (length-replicate {A = ℕ} 12288 0)))
 
 enum-known-reported : tie.Need-enum-known-reported
 enum-known-reported c = search needs

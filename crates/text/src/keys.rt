@@ -1,0 +1,83 @@
+// The known keys of a token's table: how many there are, and their lines.
+ghost use Prim.Native.Nat.{_+_, _*_, _≤_};
+ghost use mathlib.Core.Path.{_≡_};
+ghost use lib.ListN.{length};
+ghost use Rattle.token.specs.Known.{is-marked, marked-keys};
+ghost use Rattle.text.specs.Text.{key-line};
+ghost use Rattle.text.specs.Printing.{own-word, marked-line, marked-lines};
+ghost use Rattle.text.specs.Writing.{Wrote};
+use crate::append::write_bytes;
+use crate::append::write_number;
+use deciding::Entry;
+use deciding::Term;
+use deciding::decide::key_of;
+use token::Table;
+
+// Is this the entry of a known key?
+fn is_known(entry: Entry) -> bool
+    ensures { λ r. ⌜ r ≡ is-marked entry ⌝ }
+{
+    let term = entry.term;
+    let marks = entry.marks;
+    match term {
+        Term::Data => false,
+        Term::Key(k) => marks.held,
+        Term::Seal(k, p) => false,
+    }
+}
+
+// How many keys are known.
+pub fn count_known(table: Table) -> u16
+    ensures { λ r. ⌜ r ≡ length (marked-keys (table .entries)) ⌝ }
+{
+    let mut count: u16 = 0;
+    let mut i: usize = 0;
+    while i < 1024 {
+        let entry = table.entries[i];
+        i += 1;
+        if is_known(entry) {
+            count += 1;
+        }
+    }
+    count
+}
+
+// A key's line: its number, and where it comes from.
+fn write_key(k: u16, own: bool, at: usize, out: &mut [u8]) -> usize
+    requires { ⌜ at + 20 ≤ length (now out) ⌝ }
+    ensures { λ r. ⌜ Wrote 20 (key-line k (own-word own)) (now (out .entry)) at (now (out .exit)) r ⌝ }
+{
+    let a = write_bytes(b"key ", at, out);
+    let b = write_number(k, 32, a, out);
+    if own {
+        return write_bytes(b"own\n", b, out);
+    }
+    write_bytes(b"generated\n", b, out)
+}
+
+// The line of one entry: a known key's; any other entry has none.
+fn write_entry(entry: Entry, at: usize, out: &mut [u8]) -> usize
+    requires { ⌜ at + 20 ≤ length (now out) ⌝ }
+    ensures { λ r. ⌜ Wrote 20 (marked-line entry) (now (out .entry)) at (now (out .exit)) r ⌝ }
+{
+    if is_known(entry) {
+        let marks = entry.marks;
+        return write_key(key_of(entry).0, marks.own, at, out);
+    }
+    at
+}
+
+// The lines of the known keys.
+pub fn write_keys(table: Table, at: usize, out: &mut [u8]) -> usize
+    requires { ⌜ at + 20480 ≤ length (now out) ⌝ }
+    ensures { λ r. ⌜ Wrote 20480 (marked-lines (table .entries)) (now (out .entry)) at (now (out .exit)) r ⌝ }
+{
+    let mut i: usize = 0;
+    let mut to = at;
+    while i < 1024 {
+        let entry = table.entries[i];
+        to = write_entry(entry, to, out);
+        i += 1;
+    }
+    to
+}

@@ -1,0 +1,100 @@
+// What the program `rounds` prints, written into a buffer: the report of a run, or the one line of a malformed sheet.
+mod append;
+mod counting;
+mod keys;
+mod lines;
+
+ghost use Prim.Native.Nat.{_+_, _*_, _≤_};
+ghost use lib.ListN.{length};
+ghost use Rattle.text.specs.Text.{malformed-text};
+ghost use Rattle.text.specs.Printing.{run-text};
+ghost use Rattle.text.specs.Writing.{Wrote, Printed, TextWritten};
+use append::write_bytes;
+use append::write_number;
+use counting::tally_of;
+use keys::count_known;
+use keys::write_keys;
+use lines::write_first;
+use lines::write_known;
+use lines::write_lines;
+use lines::write_tally;
+use reader::Checked;
+use token::Table;
+use token::running::run;
+
+// How many commands were answered 0, and how many were not.
+pub struct Tally {
+    pub done: u16,
+    pub refused: u16,
+}
+
+// The lines of a run, one after another.
+fn write_text(
+    sheet: &[u8],
+    policy: u8,
+    n: u16,
+    records: &[u8; 12288],
+    table: Table,
+    out: &mut [u8],
+) -> usize
+    requires { ⌜ (n ≤ 4096) × (3 + 3 * n ≤ length (now sheet)) × (131072 ≤ length (now out)) ⌝ }
+    ensures { λ r.
+        ⌜ Wrote 131072 (run-text policy (now (sheet .entry)) n (now (records .entry)) (table .entries))
+        (now (out .entry)) 0 (now (out .exit)) r ⌝ }
+{
+    let a = write_first(policy, n, 0, out);
+    let b = write_lines(sheet, n, records, a, out);
+    let tally = tally_of(records, n);
+    let c = write_tally(tally, b, out);
+    let count = count_known(table);
+    let d = write_known(count, c, out);
+    write_keys(table, d, out)
+}
+
+// The text of a run: of the sheet's n commands with their records, three bytes each, and of the token's table at the end.
+fn write_run(
+    sheet: &[u8],
+    policy: u8,
+    n: u16,
+    records: &[u8; 12288],
+    table: Table,
+    out: &mut [u8; 131072],
+) -> usize
+    requires { ⌜ (n ≤ 4096) × (3 + 3 * n ≤ length (now sheet)) ⌝ }
+    ensures { λ r.
+        ⌜ Printed (run-text policy (now (sheet .entry)) n (now (records .entry)) (table .entries))
+        (now (out .entry)) (now (out .exit)) r ⌝ }
+{
+    write_text(sheet, policy, n, records, table, out)
+}
+
+// The one line of a malformed sheet, into a slice.
+fn write_refused(place: u16, out: &mut [u8]) -> usize
+    requires { ⌜ 23 ≤ length (now out) ⌝ }
+    ensures { λ r. ⌜ Wrote 23 (malformed-text place) (now (out .entry)) 0 (now (out .exit)) r ⌝ }
+{
+    let a = write_bytes(b"refused 12 place ", 0, out);
+    write_number(place, 10, a, out)
+}
+
+// The text of a malformed sheet.
+fn write_malformed(place: u16, out: &mut [u8; 131072]) -> usize
+    ensures { λ r. ⌜ Printed (malformed-text place) (now (out .entry)) (now (out .exit)) r ⌝ }
+{
+    write_refused(place, out)
+}
+
+// The text of any sheet: it is checked, run from a fresh token under its policy where it is good, and what is printed for it written.
+pub fn text_of(sheet: &[u8], out: &mut [u8; 131072]) -> usize
+    ensures { λ r. ⌜ TextWritten (now (sheet .entry)) (now (out .entry)) (now (out .exit)) r ⌝ }
+{
+    let mut records = [0u8; 12288];
+    let ran = run(sheet, &mut records);
+    let checked = ran.checked;
+    let token = ran.token;
+    let table = token.table;
+    match checked {
+        Checked::Malformed(place) => write_malformed(place, out),
+        Checked::Good(policy, n) => write_run(sheet, policy, n, &records, table, out),
+    }
+}

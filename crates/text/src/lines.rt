@@ -1,0 +1,113 @@
+// The lines of the text, each put into the buffer at a place.
+ghost use Prim.Native.Nat.{_+_, _*_, _≤_};
+ghost use mathlib.Core.Path.{_≡_};
+ghost use mathlib.Core.List.{_∷_, [], _++_};
+ghost use lib.ListN.{length};
+ghost use Rattle.sheets.specs.Reading.{read-policy};
+ghost use Rattle.text.specs.Text.{policy-name, command-name, first-line, command-line, tally-line, known-line};
+ghost use Rattle.text.specs.Printing.{entry-lines, as-tally};
+ghost use Rattle.text.specs.Writing.{Wrote};
+use crate::Tally;
+use crate::append::write_bytes;
+use crate::append::write_number;
+
+// A policy's name, and a blank.
+fn write_policy(policy: u8, at: usize, out: &mut [u8]) -> usize
+    requires { ⌜ at + 6 ≤ length (now out) ⌝ }
+    ensures { λ r. ⌜ Wrote 6 (policy-name (read-policy policy) ++ 32 ∷ []) (now (out .entry)) at (now (out .exit)) r ⌝ }
+{
+    match policy {
+        0 => write_bytes(b"plain ", at, out),
+        1 => write_bytes(b"stp ", at, out),
+        _ => write_bytes(b"stp+ ", at, out),
+    }
+}
+
+// A command's name, by its number, and a blank.
+fn write_name(number: u8, at: usize, out: &mut [u8]) -> usize
+    requires { ⌜ at + 9 ≤ length (now out) ⌝ }
+    ensures { λ r. ⌜ Wrote 9 (command-name number ++ 32 ∷ []) (now (out .entry)) at (now (out .exit)) r ⌝ }
+{
+    match number {
+        1 => write_bytes(b"GENERATE ", at, out),
+        2 => write_bytes(b"WRAP ", at, out),
+        3 => write_bytes(b"UNWRAP ", at, out),
+        4 => write_bytes(b"ENCRYPT ", at, out),
+        5 => write_bytes(b"DECRYPT ", at, out),
+        6 => write_bytes(b"CORRUPT ", at, out),
+        7 => write_bytes(b"DESTROY ", at, out),
+        8 => write_bytes(b"OWNKEY ", at, out),
+        9 => write_bytes(b"OWNDATA ", at, out),
+        10 => write_bytes(b"SEAL ", at, out),
+        _ => write_bytes(b" ", at, out),
+    }
+}
+
+// The first line: policy and count.
+pub fn write_first(policy: u8, n: u16, at: usize, out: &mut [u8]) -> usize
+    requires { ⌜ at + 28 ≤ length (now out) ⌝ }
+    ensures { λ r. ⌜ Wrote 28 (first-line (read-policy policy) n) (now (out .entry)) at (now (out .exit)) r ⌝ }
+{
+    let a = write_bytes(b"policy ", at, out);
+    let b = write_policy(policy, a, out);
+    let c = write_bytes(b"commands ", b, out);
+    write_number(n, 10, c, out)
+}
+
+// A command's line: position, name, answer, value.
+fn write_line(position: u16, number: u8, answer: u8, value: u16, at: usize, out: &mut [u8]) -> usize
+    requires { ⌜ at + 25 ≤ length (now out) ⌝ }
+    ensures { λ r.
+        ⌜ Wrote 25 (command-line position (command-name number) answer value) (now (out .entry)) at (now (out .exit)) r ⌝ }
+{
+    let a = write_number(position, 32, at, out);
+    let b = write_name(number, a, out);
+    let c = write_number(answer as u16, 32, b, out);
+    write_number(value, 10, c, out)
+}
+
+// The number of two bytes.
+fn two(high: u8, low: u8) -> u16
+    ensures { λ r. ⌜ r ≡ high * 256 + low ⌝ }
+{
+    (high as u16) * 256 + (low as u16)
+}
+
+// The lines of a sheet's n commands, each with its record.
+pub fn write_lines(sheet: &[u8], n: u16, records: &[u8; 12288], at: usize, out: &mut [u8]) -> usize
+    requires { ⌜ (n ≤ 4096) × (3 + 3 * n ≤ length (now sheet)) × (at + 25 * n ≤ length (now out)) ⌝ }
+    ensures { λ r.
+        ⌜ Wrote (25 * n) (entry-lines (now (sheet .entry)) (now (records .entry)) n) (now (out .entry)) at (now (out .exit)) r ⌝ }
+{
+    let mut i: u16 = 0;
+    let mut to = at;
+    while i < n {
+        let p = 3 * (i as usize);
+        let number = sheet[3 + p];
+        let answer = records[p];
+        let value = two(records[p + 1], records[p + 2]);
+        to = write_line(i + 1, number, answer, value, to, out);
+        i += 1;
+    }
+    to
+}
+
+// The tally's line.
+pub fn write_tally(t: Tally, at: usize, out: &mut [u8]) -> usize
+    requires { ⌜ at + 25 ≤ length (now out) ⌝ }
+    ensures { λ r. ⌜ Wrote 25 (tally-line (as-tally t)) (now (out .entry)) at (now (out .exit)) r ⌝ }
+{
+    let a = write_bytes(b"done ", at, out);
+    let b = write_number(t.done, 32, a, out);
+    let c = write_bytes(b"refused ", b, out);
+    write_number(t.refused, 10, c, out)
+}
+
+// How many keys are known.
+pub fn write_known(m: u16, at: usize, out: &mut [u8]) -> usize
+    requires { ⌜ at + 12 ≤ length (now out) ⌝ }
+    ensures { λ r. ⌜ Wrote 12 (known-line m) (now (out .entry)) at (now (out .exit)) r ⌝ }
+{
+    let a = write_bytes(b"known ", at, out);
+    write_number(m, 10, a, out)
+}

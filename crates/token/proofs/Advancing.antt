@@ -26,7 +26,7 @@ use Rattle.token.specs.declared.Token.{Token}
 use Rattle.token.specs.Shows.{Shows}
 use Rattle.token.specs.Views.{viewOf, Findable}
 use Rattle.token.specs.Applied.{Applicable, Applied}
-use Rattle.token.specs.Direct.{commandOf, ComesFrom, Reached, StepAsks, SteppedBy}
+use Rattle.token.specs.Direct.{commandOf, ComesFrom, Reached, SteppedBy}
 use Rattle.reader.proofs.GoodEntries.{good-entry}
 use Rattle.token.specs.Advance.{command-of, command-in, record-put, RunAsks, RanBy, Ran}
 use Rattle.token.proofs.ShownCounts.{few-keys}
@@ -128,14 +128,7 @@ module _ {policy : ℕ} {s : List ℕ} {n : ℕ} {before : List ℕ} {start : To
 
     pub next-applicable : Applicable t (d .change)
     next-applicable =
-        step-applicable sees decides-so (adv .asks .low)
-        (record {
-          reached = still-reached;
-          low = adv .asks .low;
-          the-command = command-at s i;
-          holdable = holdable;
-          is-command = is-command;
-        })
+        step-applicable sees decides-so (adv .asks .low) still-reached (command-at s i) holdable is-command
 
     room : 3 * i + 3 ≤ length before
     room = omega (arith, more, adv .asks .room)

@@ -40,53 +40,6 @@ aim-positive OwnData a b t = omega arith
 aim-positive (Seal k n) a b t = omega arith
 
 -- the pieces in the order in which they are read
-pub view-seen : (table : Table) (hands : Hands) (codes : List ℕ) (c : Command)
-    → {n : Names}
-    → n ≡ namesOf c
-    → {at beside : ℕ}
-    → at ≡ inside (n .t .0)
-    → beside ≡ inside (n .u .0)
-    → {p : TermNo}
-    → p ≡ payloadNo (getD (table .entries) at blank-entry .term)
-    → {below over under : ℕ}
-    → below ≡ inside (p .0)
-    → over ≡ inside (getD (hands .slots) (n .a .0) blank-slot .term .0)
-    → under ≡ inside (getD (hands .slots) (n .b .0) blank-slot .term .0)
-    → {code : ℕ}
-    → code
-    ≡ aimOf c (getD (hands .slots) (n .a .0) blank-slot) (getD (hands .slots) (n .b .0) blank-slot)
-    (getD (table .entries) at blank-entry)
-    → {equal : Equal}
-    → equal ≡ equalIn codes code
-    → {is-a is-b : Bool} {a b : Handle}
-    → is-a ≡ bit (hands .live) (n .a .0)
-    → a ≡ handleIn is-a (getD (hands .slots) (n .a .0) blank-slot)
-    → is-b ≡ bit (hands .live) (n .b .0)
-    → b ≡ handleIn is-b (getD (hands .slots) (n .b .0) blank-slot)
-    → {t u : Lookup}
-    → t ≡ lookupIn (ltb (n .t .0) (table .terms)) (getD (table .entries) at blank-entry)
-    → u ≡ lookupIn (ltb (n .u .0) (table .terms)) (getD (table .entries) beside blank-entry)
-    → {free : Free}
-    → free ≡ free-in (hands .live)
-    → _≡_ {A = View}
-    (record {
-      a = a;
-      b = b;
-      t = t;
-      u = u;
-      payload = getD (table .entries) below blank-entry;
-      outer = getD (table .entries) over blank-entry;
-      inner = getD (table .entries) under blank-entry;
-      equal = equal;
-      free = free;
-      terms = table .terms;
-    })
-    (viewOf table hands codes c)
-unfolding viewOf
-view-seen table hands codes c en e-at e-beside e-p e-below e-over e-under e-code e-equal e-is-a e-a e-is-b e-b e-t e-u e-free =
-    rw (e-a, e-b, e-is-a, e-is-b, e-t, e-u, e-below, e-over, e-under, e-p, e-equal, e-code, e-free, e-at, e-beside, en)
-
--- the same, made of what was read
 pub view-of-seen : (table : Table) (hands : Hands) (codes : List ℕ) (c : Command)
     → {n : Names}
     → n ≡ namesOf c

@@ -1,30 +1,28 @@
--- The direct call put together: a call that is none answers 1 and gives the token back, and any other is the step of the command that
--- its number and body state. Over variables; rests on sheets' Bodies.
-use Prim.Native.Nat.{ℕ, _≤_, _<_}
+-- The direct call put together: a call that is none answers 1 and gives the token back, and any other is the run of the sheet of one
+-- command, whose record is the answer and the value. Over variables; rests on OneCommand.
+use Prim.Native.Nat.{ℕ, _+_, _-_, _≤_, _<_}
 use native.Mathlib.Omega.{arith}
-use mathlib.Core.Path.{_≡_, refl, sym, ap, subst, _∙_}
-use mathlib.Core.Bool.{Bool, true, false, not, _||_, or-true}
-use mathlib.Core.List.{List}
-use lib.Dec.{ltb, eqb}
-use lib.ListN.{length, getD}
-use borrow.Author.Tests.{lt-ltb, le-ltb, not-false}
+use mathlib.Core.Path.{_≡_, refl, sym, ap, ap₂, subst, _∙_}
+use mathlib.Core.Bool.{Bool, true, false}
+use mathlib.Core.List.{List, [], _∷_}
+use lib.ListN.{length, getD, take}
 use Rattle.terms.specs.Lists.{_∈_}
 use Rattle.terms.proofs.Lists.{in-at, at-getD}
 use Rattle.rules.specs.Templates.{Policy}
 use Rattle.rules.specs.Commands.{Command}
 use Rattle.rules.specs.State.{State}
-use Rattle.rules.proofs.Named.{neither}
-use Rattle.sheets.specs.Bytes.{Bytes}
-use Rattle.sheets.specs.Sheets.{Holdable}
-use Rattle.sheets.specs.Faults.{known-number, body-length}
-use Rattle.sheets.specs.Reading.{read-command}
-use Rattle.sheets.proofs.Bodies.{stated}
-use Rattle.deciding.specs.declared.Command.{Command as Stored}
-use Rattle.deciding.specs.declared.Parsed.{Parsed}
-use Rattle.deciding.specs.declared.Parsed.the-variants.{Known, Unknown}
+use Rattle.rules.specs.Runs.{Answer, Step, Run, ends, then}
+use Rattle.sheets.specs.Bytes.{Bytes, two, byte-at, two-at}
+use Rattle.sheets.specs.Reports.{records-bytes}
+use Rattle.sheets.specs.Calls.{over}
+use Rattle.sheets.specs.Reading.{read-command, read-commands}
 use Rattle.token.specs.declared.Token.{Token}
 use Rattle.token.specs.declared.Called.{Called}
-use Rattle.token.specs.Direct.{commandOf, parsedIf, no-command, parsed, not-a-call, Reached, ComesFrom, StepAsks, Stepped, CallAnswer, Answered}
+use Rattle.token.specs.Shows.{Shows}
+use Rattle.token.specs.Direct.{not-a-call, Reached, ComesFrom, SteppedBy, CallAnswer, Answered}
+use Rattle.token.specs.Advance.{RunAsks, RanBy, Ran}
+use Rattle.token.specs.OneCommand.{one-command}
+use Rattle.token.proofs.OneCommand.{IsCall, is-call, ReadsOne, one-read}
 
 -- a list whose every place holds a number below 256 is of bytes
 pub bytes-of : (s : List ℕ) → ((i : ℕ) → getD s i 0 < 256) → Bytes s
@@ -34,58 +32,65 @@ bytes-of s below x h =
     omega (arith, below (r .0))
 
 -- the answer where the call is none
-none-answered : (token : Token) (policy number : ℕ) (body : List ℕ) → not-a-call policy number body ≡ true
+pub none-answered : (token : Token) (policy number : ℕ) (body : List ℕ) → not-a-call policy number body ≡ true
     → Answered token policy number body (record { token = token; answer = 1; value = 0 })
 none-answered token policy number body e p s comes =
     subst (λ (b : Bool). CallAnswer b token p s number body (record { token = token; answer = 1; value = 0 })) (sym e)
     (record { answers-1 = refl; no-value = refl; same-token = refl })
 
-pub policy-above : (token : Token) (policy number : ℕ) (body : List ℕ) → 2 < policy
-    → Answered token policy number body (record { token = token; answer = 1; value = 0 })
-unfolding not-a-call
-policy-above token policy number body high = none-answered token policy number body (rw (lt-ltb 2 policy high) refl)
+-- the run of one command is one step, and its record says what the step answered
+one-step : {p : Policy} {s end : State} {c : Command} {said : List Answer} (before : List ℕ) {after : List ℕ} {r : Token} → Run p s (c ∷ []) said end
+    → after ≡ over (records-bytes said) before
+    → (shows-end : Shows r end)
+    → SteppedBy p s c (record { token = r; answer = getD after 0 0; value = two-at after 1 })
+unfolding over records-bytes two two-at byte-at
+one-step {p} {s} {c = c} before {after} (then {next = next} {a = a} st ends) written shown =
+    let answer : getD after 0 0 ≡ a .answer = rw written refl in
+    let value : two-at after 1 ≡ a .value = rw written (omega arith) in
+    record {
+      next = next;
+      step = rw (answer, value) st;
+      shows-next = shown;
+    }
 
--- what was read is none, or the command that number and body state
-parsed-none : (b : Bool) (c : Command) → parsedIf b c ≡ Unknown → b ≡ true
-unfolding parsedIf
-parsed-none true c e = refl
-parsed-none false c e = cc
+-- the body of a call has at most four bytes
+pub short-body : (policy number : ℕ) (body : List ℕ) → not-a-call policy number body ≡ false → length body ≤ 4
+short-body policy number body a-call = is-call policy number body a-call .short
 
-parsed-known : (b : Bool) (c : Command) (command : Stored) → parsedIf b c ≡ Known command → (b ≡ false) × (command ≡ commandOf c)
-unfolding parsedIf
-parsed-known true c command e = (cc, cc)
-parsed-known false c command e = (refl, cc)
+module _ (policy number : ℕ) (body : List ℕ) (below : (i : ℕ) → getD body i 0 < 256)
+    (a-call : not-a-call policy number body ≡ false) where
+  call-is : IsCall policy number body
+  call-is = is-call policy number body a-call
 
-module _ (token : Token) (policy number : ℕ) (body : List ℕ) where
-  pub none-read : parsed number body ≡ Unknown → Answered token policy number body (record { token = token; answer = 1; value = 0 })
-  unfolding parsed not-a-call
-  none-read e =
-      none-answered token policy number body
-      (ap (λ (b : Bool). ltb 2 policy || b) (parsed-none (no-command number body) (read-command number body) e) ∙ or-true (ltb 2 policy))
+  reads : ReadsOne (take (6 + length body) (one-command policy number body)) (read-command number body)
+  reads = one-read (bytes-of body below) call-is
 
-  module _ {command : Stored} (low : policy ≤ 2) (read : parsed number body ≡ Known command) where
-    is-read : (no-command number body ≡ false) × (command ≡ commandOf (read-command number body))
-    unfolding parsed
-    is-read = parsed-known (no-command number body) (read-command number body) command read
+  -- the ten bytes, as they are lent up to the body's end
+  module _ {ten : List ℕ} (made : ten ≡ one-command policy number body) where
+    lent : take (6 + length body - 0) ten ≡ take (6 + length body) (one-command policy number body)
+    lent = ap₂ take {x = 6 + length body - 0} {y = 6 + length body} (omega arith) made
 
-    -- the number is known, so the command that a body of bytes states can stand in a sheet
-    holds : ((i : ℕ) → getD body i 0 < 256) → Holdable (read-command number body)
-    unfolding no-command
-    holds below = stated body (bytes-of body below) number (not-false _ (neither _ _ (is-read .0) .0)) .holdable
-
-    pub step-asked : ((i : ℕ) → getD body i 0 < 256) → Reached token policy → StepAsks token policy command
-    step-asked below reached =
-        record {
+    pub one-asked : {token : Token} → Reached token policy → {records : List ℕ} → length records ≡ 3
+        → RunAsks token policy (take (6 + length body - 0) ten) 1 records
+    one-asked {token} reached {records} long =
+        subst (λ (s : List ℕ). RunAsks token policy s 1 records) (sym lent)
+        (record {
           reached = reached;
-          low = low;
-          the-command = read-command number body;
-          holdable = holds below;
-          is-command = is-read .1;
-        }
+          low = call-is .low;
+          good = reads .no-fault;
+          counted = sym (reads .counts-one);
+          room = omega (arith, long);
+        })
 
-    pub step-answered : ((i : ℕ) → getD body i 0 < 256) → (r : Called) → Stepped token policy command r → Answered token policy number body r
-    unfolding not-a-call
-    step-answered below r stepped p s comes =
-        let is-call : not-a-call policy number body ≡ false = rw (le-ltb 2 policy low) (is-read .0) in
-        subst (λ (b : Bool). CallAnswer b token p s number body r) (sym is-call)
-        (stepped p s (read-command number body) comes (holds below) (is-read .1))
+    pub one-answered : {token : Token} {before after : List ℕ} {r : Token} → Ran token policy (take (6 + length body - 0) ten) 1 before after r
+        → {value : ℕ}
+        → value ≡ two-at after 1
+        → Answered token policy number body (record { token = r; answer = getD after 0 0; value = value })
+    one-answered {token} {before} {after} {r} ran {value} is p state comes =
+        let by = ran p state comes in
+        let cs : read-commands (take (6 + length body - 0) ten) 1 ≡ read-command number body ∷ [] =
+        ap (λ (s : List ℕ). read-commands s 1) lent ∙ reads .reads in
+        subst (λ (b : Bool). CallAnswer b token p state number body (record { token = r; answer = getD after 0 0; value = value }))
+        (sym a-call)
+        (subst (λ (v : ℕ). SteppedBy p state (read-command number body) (record { token = r; answer = getD after 0 0; value = v })) (sym is)
+        (one-step before (subst (λ (l : List Command). Run p state l (by .said) (by .end)) cs (by .run)) (by .written) (by .shows-end)))

@@ -51,13 +51,13 @@ pub mod ChangedCommands
 pub mod Changed
 pub mod ChangedRoom
 pub mod ApiLook
-pub mod ApiApply
 pub mod ApiKnown
 pub mod ApiWritten
 pub mod StepShown
 pub mod RecordsWritten
 pub mod Stored
 pub mod Advancing
+pub mod OneCommand
 pub mod CallShown
 pub mod Going
 pub mod RunShown

@@ -35,7 +35,7 @@ use Rattle.token.specs.Shows.{Shows, blank-entry, entry-of, entry-for, c
 use Rattle.deciding.specs.Decisions.{decided}
 use Rattle.token.specs.Views.{viewOf, Findable}
 use Rattle.token.specs.Applied.{Applicable, Applied}
-use Rattle.token.specs.Direct.{commandOf, ComesFrom, StepAsks, SteppedBy, Stepped}
+use Rattle.token.specs.Direct.{commandOf, ComesFrom, Reached, SteppedBy}
 use Rattle.token.proofs.ChangeFor.{change-for, value-for}
 use Rattle.token.proofs.DecidedBy.{refusal-for, Decides, policy-read}
 use Rattle.token.proofs.Decided.{decides}
@@ -156,11 +156,10 @@ module _ {token : Token} {policy : ℕ} {command : Stored} {seen : View} {d : De
       ∙ ap (λ (x : Stored). decided policy x (viewOf (token .table) (token .hands) (token .links .codes) x)) e in
       step-makes (comes .reachable) (comes .shown) (subst (Decides p s c) (sym is) by)
 
-  pub step-applicable : StepAsks token policy command → Applicable token (d .change)
-  step-applicable asks =
-      makes (asks .reached .under) (asks .reached .state) (asks .the-command) (asks .reached .comes) (asks .holdable) (asks .is-command)
-      .applicable
+  pub step-applicable : Reached token policy → (c : Command) → Holdable c → command ≡ commandOf c → Applicable token (d .change)
+  step-applicable reached c holdable e = makes (reached .under) (reached .state) c (reached .comes) holdable e .applicable
 
   pub step-stepped : {r : Token} → Applied token (d .change) r
-      → Stepped token policy command (record { token = r; answer = d .answer; value = d .value })
+      → (p : Policy) (s : State) (c : Command) → ComesFrom token policy p s → Holdable c → command ≡ commandOf c
+      → SteppedBy p s c (record { token = r; answer = d .answer; value = d .value })
   step-stepped {r} applied p s c comes holdable e = makes p s c comes holdable e .steps r applied

@@ -29,8 +29,7 @@ use Rattle.token.specs.Shows.{blank-entry, blank-slot, seal-code}
 use Rattle.token.specs.Stores.{HandPut, SlotStored, entryStored}
 use Rattle.token.specs.Leaks.{Followable}
 use Rattle.deciding.specs.Decisions.{keyOf}
-use Rattle.token.proofs.ApiApply.{seal-followable, seal-kept, seal-followed}
-use Rattle.token.specs.Applied.{SlotSet, appended, linked, seal-entry, TableFollowed, Parts, Applied, Applicable}
+use Rattle.token.specs.Applied.{SlotSet, appended, linked, seal-entry, TableFollowed, SealRoom, Parts, Applied, Applicable}
 
 -- the hands and the table after the stores
 abbrev pub stored-hands : Hands → SlotPut → Hands
@@ -129,6 +128,25 @@ pub linked-by : (links : Links) (i k p : ℕ) {code : ℕ} → code ≡ seal-cod
     (linked links i k p)
 linked-by links i k p e = rw (e, add-one) refl
 
+-- a seal that is appended and linked: its leak can be followed where the room for it was given, and what comes of it is the change
+module _ (t : Token) (k : KeyNo) (p : TermNo) (leaks : Bool) {table : Table} (grown : table ≡ appended (t .table) (seal-entry k p))
+    {links : Links} (bound : links ≡ linked (t .links) (t .table .terms) (k .0) (p .0)) where
+  seal-followable : SealRoom t (k .0) (p .0) leaks → leaks ≡ true → {key : KeyNo}
+      → key ≡ keyOf (getD (table .entries) (p .0) blank-entry .term)
+      → Followable (table .entries) (links .newest) (links .older) (table .terms) (p .0) key
+  seal-followable room leaky of-key = rw (of-key, bound, grown) (rw leaky at (room .followable))
+
+  -- where nothing leaks
+  seal-kept : leaks ≡ false → Applied t (NewSeal k p leaks) (record { table = table; links = links; hands = t .hands })
+  unfolding Applied
+  seal-kept tight = rw tight (record { of-table = grown; of-links = bound; of-hands = refl })
+
+  -- where the payload leaks
+  seal-followed : leaks ≡ true → {followed : Table} → TableFollowed table (p .0) followed
+      → Applied t (NewSeal k p leaks) (record { table = followed; links = links; hands = t .hands })
+  unfolding Applied
+  seal-followed leaky follow = rw leaky (record { of-table = rw grown at follow; of-links = bound; of-hands = refl })
+
 module _ (t : Token) (h : ℕ) {slot : Slot} (read-slot : ReadSlot (t .hands) h slot) (at : ℕ) {e : Entry}
     (read-entry : ReadEntry (t .table) at e) (put : SlotPut) (grown : EntryPut) where
   -- what is known of the two stores
@@ -203,14 +221,14 @@ module _ (t : Token) (h : ℕ) {slot : Slot} (read-slot : ReadSlot (t .hands) h 
         → key ≡ keyOf (getD (stored-table (t .table) grown .entries) (p .0) blank-entry .term)
         → Followable (stored-table (t .table) grown .entries) (links .newest) (links .older)
         (stored-table (t .table) grown .terms) (p .0) key
-    new-seal-followable room leaky of-key = seal-followable t k p leaks refl table-grown bound (subst (Applicable t) is room) leaky of-key
+    new-seal-followable room leaky of-key = seal-followable t k p leaks table-grown bound (subst (Applicable t) is room) leaky of-key
 
     -- where nothing leaks
     pub new-seal-kept : leaks ≡ false
         → Applied t change (record { table = stored-table (t .table) grown; links = links; hands = stored-hands (t .hands) put })
-    new-seal-kept tight = with-hands (stored-table (t .table) grown) (seal-kept t k p leaks refl table-grown bound tight)
+    new-seal-kept tight = with-hands (stored-table (t .table) grown) (seal-kept t k p leaks table-grown bound tight)
 
     -- where the payload leaks
     pub new-seal-followed : leaks ≡ true → {followed : Table} → TableFollowed (stored-table (t .table) grown) (p .0) followed
         → Applied t change (record { table = followed; links = links; hands = stored-hands (t .hands) put })
-    new-seal-followed leaky {followed} follow = with-hands followed (seal-followed t k p leaks refl table-grown bound leaky follow)
+    new-seal-followed leaky {followed} follow = with-hands followed (seal-followed t k p leaks table-grown bound leaky follow)

@@ -11,11 +11,9 @@ use Rattle.rules.specs.Templates.{Policy}
 use Rattle.rules.specs.Commands.{Command}
 use Rattle.rules.specs.State.{State}
 use Rattle.rules.specs.Runs.{Answer, Step, Reachable}
-use Rattle.sheets.specs.Sheets.{policy-number, Holdable}
-use Rattle.sheets.specs.Faults.{known-number, body-length}
+use Rattle.sheets.specs.Sheets.{policy-number}
 use Rattle.sheets.specs.Reading.{read-command}
-use Rattle.deciding.specs.declared.Command.{Command as Stored}
-unfoldable pub use Rattle.deciding.specs.Commands.{commandOf, parsedIf, no-command, parsed}
+unfoldable pub use Rattle.deciding.specs.Commands.{commandOf, no-command}
 use Rattle.token.specs.declared.Token.{Token}
 use Rattle.token.specs.declared.Called.{Called}
 use Rattle.token.specs.Shows.{Shows}
@@ -34,23 +32,11 @@ pub record Reached (token : Token) (policy : ℕ) : Type 0 where
   pub state : State
   pub comes : ComesFrom token policy under state
 
--- a command of the code under a policy of document 01, on a token that comes from a fresh one
-pub record StepAsks (token : Token) (policy : ℕ) (command : Stored) : Type 0 where
-  pub reached : Reached token policy
-  pub low : policy ≤ 2
-  pub the-command : Command
-  pub holdable : Holdable the-command
-  pub is-command : command ≡ commandOf the-command
-
 -- what is given back where a command is stepped: the rules' answer and value, and a token that shows the rules' next state
 pub record SteppedBy (p : Policy) (s : State) (c : Command) (r : Called) : Type 0 where
   pub next : State
   pub step : Step p s c (record { answer = r .answer; value = r .value }) next
   pub shows-next : Shows (r .token) next
-
-abbrev pub Stepped : (token : Token) (policy : ℕ) (command : Stored) (r : Called) → Type 0
-Stepped token policy command r =
-    (p : Policy) (s : State) (c : Command) → ComesFrom token policy p s → Holdable c → command ≡ commandOf c → SteppedBy p s c r
 
 -- what is given back, where the call is none, and where it is one
 pub record Refused1 (token : Token) (r : Called) : Type 0 where

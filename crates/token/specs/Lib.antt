@@ -11,3 +11,4 @@ pub mod Direct
 pub mod Stores
 pub mod Advance
 pub mod Run
+pub mod OneCommand

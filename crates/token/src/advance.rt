@@ -5,36 +5,29 @@ ghost use mathlib.Core.Bool.{true, false};
 ghost use lib.ListN.{length};
 ghost use Rattle.rules.specs.State.{most-terms};
 ghost use Rattle.token.specs.Shows.{blank-slot, entry as entryWith};
-ghost use Rattle.token.specs.Views.{seenIn};
 ghost use Rattle.token.specs.Stores.{HandPut, SlotStored, entryStored};
 ghost use Rattle.token.specs.Advance.{command-in, record-put, RunAsks, Ran};
 use crate::EntryPut;
-use crate::Names;
 use crate::SlotPut;
 use crate::Token;
 use crate::find::find;
 use crate::leaks::follow;
-use crate::live::free;
-use crate::live::is_live;
 use crate::live::set_dead;
 use crate::live::set_live;
 use crate::look::aim_of;
 use crate::look::code;
-use crate::look::handle_in;
-use crate::look::lookup_in;
 use crate::look::names_of;
 use crate::look::place;
+use crate::look::seen;
 use deciding::Change;
 use deciding::Command;
 use deciding::Entry;
-use deciding::Equal;
 use deciding::HandleNo;
 use deciding::KeyNo;
 use deciding::Marks;
 use deciding::Slot;
 use deciding::Term;
 use deciding::TermNo;
-use deciding::View;
 use deciding::decide::decide;
 use deciding::decide::key_of;
 use deciding::decide::payload_no;
@@ -50,36 +43,6 @@ fn command_in(sheet: &[u8], i: u16) -> Command
         return Command::OwnKey;
     };
     entry.command
-}
-
-// What a command sees, of what it read.
-fn seen(
-    names: Names,
-    live: [u64; 4],
-    a: Slot,
-    b: Slot,
-    t: Entry,
-    u: Entry,
-    payload: Entry,
-    outer: Entry,
-    inner: Entry,
-    equal: Equal,
-    terms: u16,
-) -> View
-    ensures { λ r. ⌜ r ≡ seenIn names live a b t u payload outer inner equal terms ⌝ }
-{
-    View {
-        a: handle_in(is_live(live, names.a), a),
-        b: handle_in(is_live(live, names.b), b),
-        t: lookup_in(names.t.0 < terms, t),
-        u: lookup_in(names.u.0 < terms, u),
-        payload,
-        outer,
-        inner,
-        equal,
-        free: free(live),
-        terms,
-    }
 }
 
 fn bound(live: [u64; 4], number: HandleNo, slot: Slot) -> SlotPut

@@ -1,25 +1,22 @@
 // The symbolic token: its parts by value, and the direct call. What each part shows of document 01's state is said in specs/Shows.antt.
 mod advance;
-mod apply;
 mod find;
 pub mod known;
 mod leaks;
 mod live;
 mod look;
+mod one;
 pub mod running;
 
-ghost use Rattle.token.specs.Direct.{Reached, Answered, StepAsks, Stepped};
-use apply::apply;
+ghost use Rattle.token.specs.Direct.{Reached, Answered};
+use advance::advance;
 use deciding::Entry;
 use deciding::HandleNo;
-use deciding::KeyNo;
-use deciding::Parsed;
-use deciding::SheetEntry;
 use deciding::Slot;
 use deciding::TermNo;
-use deciding::decide::decide;
-use deciding::parse::parse;
-use look::look;
+use one::not_a_call;
+use one::one_command;
+use one::value_in;
 use reader::Checked;
 
 // The terms by number, and how many terms and keys there are. Past the last term every entry is blank.
@@ -101,52 +98,25 @@ pub enum Origin {
     NoKey,
 }
 
-// The command of one entry on a token, under a policy of document 01.
-fn step(token: Token, policy: u8, entry: SheetEntry) -> Called
-    requires { ⌜ StepAsks token policy (entry .command) ⌝ }
-    ensures { λ r. ⌜ Stepped token policy (entry .command) r ⌝ }
-{
-    let command = entry.command;
-    let table = token.table;
-    let links = token.links;
-    let hands = token.hands;
-    let seen = look(
-        table,
-        hands,
-        &links.heads,
-        &links.chain,
-        &links.codes,
-        command,
-    );
-    let decision = decide(policy, command, seen);
-    let change = decision.change;
-    let next = apply(token, change);
-    Called {
-        token: next,
-        answer: decision.answer,
-        value: decision.value,
-    }
-}
-
-// The direct call: one command by its number and its body's bytes.
+// The direct call: one command by its number and its body's bytes, run as a sheet of one command.
 pub fn call(token: Token, policy: u8, number: u8, body: &[u8]) -> Called
     requires { ⌜ Reached token policy ⌝ }
     ensures { λ r. ⌜ Answered token policy number (now (body .entry)) r ⌝ }
 {
-    if 2 < policy {
+    if not_a_call(policy, number, body) {
         return Called {
             token,
             answer: 1,
             value: 0,
         };
     }
-    let parsed = parse(number, body);
-    let Parsed::Known(command) = parsed else {
-        return Called {
-            token,
-            answer: 1,
-            value: 0,
-        };
-    };
-    step(token, policy, SheetEntry { number, command })
+    let sheet = one_command(policy, number, body);
+    let end = 6 + body.len();
+    let mut said = [0u8; 3];
+    let next = advance(token, policy, &sheet[0..end], 1, &mut said);
+    Called {
+        token: next,
+        answer: said[0],
+        value: value_in(&said),
+    }
 }

@@ -1,19 +1,15 @@
-// What a command sees of the token, read into small values.
+// What a command names, and what it sees of what was read of the token.
 ghost use mathlib.Core.Path.{_≡_};
 ghost use Prim.Native.Nat.{_<_};
-ghost use mathlib.Core.Bool.{cond};
-ghost use lib.ListN.{length};
-ghost use Rattle.rules.specs.State.{most-handles, most-terms};
+ghost use Rattle.rules.specs.State.{most-terms};
 ghost use Rattle.token.specs.Shows.{seal-code};
-ghost use Rattle.token.specs.Views.{namesOf, inside, handleIn, lookupIn, aimOf, viewOf, Findable};
-use crate::Hands;
+ghost use Rattle.token.specs.Views.{namesOf, inside, handleIn, lookupIn, aimOf, seenIn};
 use crate::Names;
-use crate::Table;
-use crate::find::find;
 use crate::live::free;
 use crate::live::is_live;
 use deciding::Command;
 use deciding::Entry;
+use deciding::Equal;
 use deciding::Handle;
 use deciding::HandleNo;
 use deciding::Lookup;
@@ -21,7 +17,6 @@ use deciding::Slot;
 use deciding::TermNo;
 use deciding::View;
 use deciding::decide::key_of;
-use deciding::decide::payload_no;
 
 fn named(a: HandleNo, b: HandleNo, t: TermNo, u: TermNo) -> Names
     ensures { λ r. ⌜ r ≡ record { a = a; b = b; t = t; u = u } ⌝ }
@@ -102,36 +97,27 @@ pub fn aim_of(command: Command, a: Slot, b: Slot, t: Entry) -> u32
     }
 }
 
-pub fn look<'a>(
-    table: Table,
-    hands: Hands,
-    heads: &'a [u16; 1024],
-    chain: &'a [u16; 1024],
-    codes: &'a [u32; 1024],
-    command: Command,
+// What a command sees, of what it read.
+pub fn seen(
+    names: Names,
+    live: [u64; 4],
+    a: Slot,
+    b: Slot,
+    t: Entry,
+    u: Entry,
+    payload: Entry,
+    outer: Entry,
+    inner: Entry,
+    equal: Equal,
+    terms: u16,
 ) -> View
-    requires { ⌜ Findable (now heads) (now chain) (now codes) ⌝ }
-    requires { ⌜ length (table .entries) ≡ most-terms ⌝ }
-    requires { ⌜ length (hands .slots) ≡ most-handles ⌝ }
-    ensures { λ r. ⌜ r ≡ viewOf table hands (now (codes .entry)) command ⌝ }
+    ensures { λ r. ⌜ r ≡ seenIn names live a b t u payload outer inner equal terms ⌝ }
 {
-    let names = names_of(command);
-    let live = hands.live;
-    let terms = table.terms;
-    let slot_a = hands.slots[names.a.0 as usize];
-    let slot_b = hands.slots[names.b.0 as usize];
-    let entry_t = table.entries[place(names.t)];
-    let entry_u = table.entries[place(names.u)];
-    let payload = table.entries[place(payload_no(entry_t))];
-    let outer = table.entries[place(slot_a.term)];
-    let inner = table.entries[place(slot_b.term)];
-    let aim = aim_of(command, slot_a, slot_b, entry_t);
-    let equal = find(heads, chain, codes, aim);
     View {
-        a: handle_in(is_live(live, names.a), slot_a),
-        b: handle_in(is_live(live, names.b), slot_b),
-        t: lookup_in(names.t.0 < terms, entry_t),
-        u: lookup_in(names.u.0 < terms, entry_u),
+        a: handle_in(is_live(live, names.a), a),
+        b: handle_in(is_live(live, names.b), b),
+        t: lookup_in(names.t.0 < terms, t),
+        u: lookup_in(names.u.0 < terms, u),
         payload,
         outer,
         inner,

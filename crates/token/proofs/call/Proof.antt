@@ -1,33 +1,71 @@
--- `call` meets its contract: a policy above 2 or what is no command answers 1, and any other call is a step. Rests on CallShown.
-use mathlib.Core.Path.{sym, _∙_}
+-- `call` meets its contract: a call that is none answers 1, and any other is the run of the sheet of one command, whose record says the
+-- answer and the value. Rests on CallShown.
+use mathlib.Core.Path.{refl, sym, _∙_}
+use native.Mathlib.Omega.{arith}
 use borrow.Author.Needs.{needs}
-use Rattle.token.proofs.CallShown.{policy-above, none-read, step-asked, step-answered}
+use Rattle.token.proofs.CallShown.{none-answered, short-body, one-asked, one-answered}
 use Rattle.token.proofs.call.Statement.{statement}
 use Rattle.token.proofs.call.Tie as tie
 
+not-a-call-requires : tie.Need-not-a-call-requires
+not-a-call-requires c κs = search needs
+
 returns : tie.Need-returns
-returns c = policy-above _ _ _ _ (c .if1 .taken)
+returns c = none-answered _ _ _ _ (sym (c .before .not-a-call .ensures) ∙ c .if1 .taken)
 
-parse-requires : tie.Need-parse-requires
-parse-requires c κs = tt
+one-command-requires : tie.Need-one-command-requires
+one-command-requires c κs = search needs
 
-enum-known-parsed : tie.Need-enum-known-parsed
-enum-known-parsed c = search needs
+add-end : tie.Need-add-end
+add-end c = search needs
 
-enum-told : tie.Need-enum-told
-enum-told c = search needs
+sub-advance : tie.Need-sub-advance
+sub-advance c = search needs
+
+part-advance-start : tie.Need-part-advance-start
+part-advance-start c = search needs
+
+part-advance-end : tie.Need-part-advance-end
+part-advance-end c =
+    omega (arith, short-body _ _ _ (sym (c .before .before .before .not-a-call .ensures) ∙ c .before .before .if1 .left))
+
+slice-aggregate-advance : tie.Need-slice-aggregate-advance
+slice-aggregate-advance c = search needs
+
+advance-requires : tie.Need-advance-requires
+advance-requires c κs =
+    one-asked _ _ _ (λ i. c .before .before .before .before .before .before .shared-slice-known .given i .fits)
+    (sym (c .before .before .before .before .before .not-a-call .ensures) ∙ c .before .before .before .before .if1 .left) (c .before .before .before .one-command .ensures) (c .before .before .before .before .before .before .before .pre) refl
+
+array-read-t20 : tie.Need-array-read-t20
+array-read-t20 c = search needs
+
+slice-aggregate-value-in : tie.Need-slice-aggregate-value-in
+slice-aggregate-value-in c = search needs
+
+value-in-requires : tie.Need-value-in-requires
+value-in-requires c κs = omega (arith, c .before .said2 .given)
 
 returns-2 : tie.Need-returns-2
-returns-2 c = none-read _ _ _ _ (sym (c .before .before .parse .ensures) ∙ c .enum-told .given .1)
-
-step-requires : tie.Need-step-requires
-step-requires c κs =
-    step-asked _ _ _ _ (c .before .before .before .before .if1 .left) (sym (c .before .before .before .parse .ensures) ∙ c .before .parsed .given .1) (λ i. c .before .before .before .before .before .shared-slice-known .given i .fits) (c .before .before .before .before .before .before .pre)
-
-returns-3 : tie.Need-returns-3
-returns-3 c =
-    step-answered _ _ _ _ (c .before .before .before .before .before .if1 .left) (sym (c .before .before .before .before .parse .ensures) ∙ c .before .before .parsed .given .1) (λ i. c .before .before .before .before .before .before .shared-slice-known .given i .fits) _ (c .step .ensures)
+returns-2 c =
+    one-answered _ _ _ (λ i. c .before .before .before .before .before .before .before .before .before .before .shared-slice-known .given i .fits)
+    (sym (c .before .before .before .before .before .before .before .before .before .not-a-call .ensures) ∙ c .before .before .before .before .before .before .before .before .if1 .left) (c .before .before .before .before .before .before .before .one-command .ensures) (c .before .before .before .advance .ensures)
+    (c .value-in .ensures)
 
 pub call-spec : {M : Type 1} → statement M
 call-spec =
-    tie.close (tie.spec returns parse-requires enum-known-parsed enum-told returns-2 step-requires returns-3)
+    tie.close
+    (tie.spec
+    not-a-call-requires
+    returns
+    one-command-requires
+    add-end
+    sub-advance
+    part-advance-start
+    part-advance-end
+    slice-aggregate-advance
+    advance-requires
+    array-read-t20
+    slice-aggregate-value-in
+    value-in-requires
+    returns-2)

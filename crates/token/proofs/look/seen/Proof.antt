@@ -6,8 +6,8 @@ use Rattle.token.specs.Views.{seenIn}
 use borrow.Author.Needs.{needs}
 use mathlib.Core.Path.{_≡_, refl, sym, ap, _∙_}
 use borrow.Author.Needs.{needs}
-use Rattle.token.proofs.advance.seen.Statement.{statement}
-use Rattle.token.proofs.advance.seen.Tie as tie
+use Rattle.token.proofs.look.seen.Statement.{statement}
+use Rattle.token.proofs.look.seen.Tie as tie
 
 -- `seen` meets its contract.
 

@@ -5,7 +5,7 @@ use native.Mathlib.Numerals.{add-one}
 use native.Mathlib.Omega.{arith}
 use mathlib.Core.Path.{_≡_, refl, sym, ap, _∙_, subst}
 use mathlib.Core.List.{List, [], _∷_, _++_, append-assoc, append-nil}
-use lib.ListN.{length, getD, take, drop, set, length-append, length-drop, length-set, take-append-drop}
+use lib.ListN.{length, getD, take, drop, set, length-append, length-drop, take-append-drop}
 use lib.Seq.{length-take-le, take-all, take-suc, take-at, drop-at, drop-drop, set-split}
 use Rattle.sheets.specs.Calls.{over}
 use Rattle.text.specs.Writing.{placed, Wrote, Printed}
@@ -99,10 +99,21 @@ pub wrote-as : {m : ℕ} {bytes same before after : List ℕ} {at end : ℕ} →
 wrote-as {m} {before} {after} {at} {end} e w = subst (λ (l : List ℕ). Wrote m l before at after end) e w
 
 -- a text written from the buffer's front on
-pub wrote-all : {m : ℕ} {text before after : List ℕ} {end : ℕ} → Wrote m text before 0 after end → Printed text before after end
+pub wrote-all : {m : ℕ} {text before after : List ℕ} {end : ℕ} → m ≤ 131072 → Wrote m text before 0 after end
+    → Printed text before after end
 unfolding placed over
-wrote-all {text} {before} w =
-    record { written = rw zero-add at (w .written); how-long = omega (arith, w .behind); fits = omega (arith, w .inside) }
+wrote-all {text} {before} h w =
+    record {
+      written = rw zero-add at (w .written);
+      how-long = omega (arith, w .behind);
+      few = omega (arith, w .few);
+      fits = omega (arith, w .inside);
+    }
+
+-- a text is written in one way
+pub printed-unique : {text before after after' : List ℕ} {long long' : ℕ} → Printed text before after long
+    → Printed text before after' long' → (after ≡ after') × (long ≡ long')
+printed-unique a b = (a .written ∙ sym (b .written), a .how-long ∙ sym (b .how-long))
 
 -- a string is written byte by byte: with i bytes behind, those are written
 module _ (bytes before : List ℕ) (at i : ℕ) (out : List ℕ) (to : ℕ) (room : at + length bytes ≤ length before)

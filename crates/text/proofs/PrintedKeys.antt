@@ -1,11 +1,11 @@
 -- The lines of the entries that are known keys are the key lines of the state that a token shows: each known key was created, and
 -- its entry's mark says whether it is the caller's own. Rests on token's KnownShown.
-use Prim.Native.Nat.{ℕ, zero, suc}
+use Prim.Native.Nat.{ℕ, suc}
 use mathlib.Core.Path.{_≡_, refl, sym, ap, _∙_}
-use mathlib.Core.Bool.{Bool, true, false, _&&_, false≢true}
+use mathlib.Core.Bool.{true, false, _&&_, false≢true}
 use mathlib.Core.List.{List, [], _∷_, _++_}
-use mathlib.Core.Option.{Option, none, some}
-use lib.ListN.{length, getD, getElem?}
+use mathlib.Core.Option.{some}
+use lib.ListN.{getD, getElem?}
 use Rattle.terms.proofs.Lists.{bool-cases, at-in, below-at}
 use Rattle.rules.specs.State.{State, Origin, generated, own}
 use Rattle.rules.proofs.Named.{both}

@@ -1,9 +1,8 @@
 -- What is computed from the sheet's bytes and the records is what the commands and the answers say: the lines, and the tally.
 -- Rests on the sheets' laws of bytes.
 use Prim.Native.Nat.{ℕ, zero, suc, _+_, _*_}
-use native.Mathlib.Nat.{zero-add}
 use native.Mathlib.Omega.{arith}
-use mathlib.Core.Path.{_≡_, refl, sym, ap, _∙_}
+use mathlib.Core.Path.{_≡_, sym, ap, _∙_}
 use mathlib.Core.List.{List, [], _∷_, _++_, append-assoc, append-nil}
 use lib.ListN.{length, drop}
 use Rattle.rules.specs.Commands.{Command, number}

@@ -17,10 +17,11 @@ pub record Wrote (most : ℕ) (bytes before : List ℕ) (at : ℕ) (after : List
   pub few : length bytes ≤ most
   pub inside : at + length bytes ≤ length before
 
--- a whole text, over the front of the buffer
+-- a whole text, over the front of a buffer of 131,072 bytes, in which every text fits
 pub record Printed (text before after : List ℕ) (long : ℕ) : Type 0 where
   pub written : after ≡ over text before
   pub how-long : long ≡ length text
+  pub few : length text ≤ 131072
   pub fits : length text ≤ length before
 
 -- the text of a sheet, over the front of the buffer

@@ -1,13 +1,10 @@
 -- `write_decimal` meets its contract: below 10 one digit is written, else the last digit behind those of a tenth (Decimals). It
 -- calls itself on a tenth, so the number itself is the measure.
-use Prim.Native.Nat.{ℕ, _<_, _≤_, _+_, _/_}
+use Prim.Native.Nat.{ℕ, _<_, _+_}
 use native.Mathlib.Omega.{arith}
-use mathlib.Core.Path.{_≡_, sym}
-use lib.ListN.{length, length-set}
+use lib.ListN.{length-set}
 use borrow.Fn.Kinds.{In}
 use borrow.Fn.PlainCycle.{Measures, is, falls, and}
-use Rattle.text.specs.Text.{decimal}
-use Rattle.text.proofs.Placed.{wrote-length}
 use Rattle.text.proofs.Decimals.{digit-room, wrote-digit, tenth-room, last-room, wrote-last}
 use Rattle.text.proofs.append.write_decimal.Reads as write-decimal
 use Rattle.text.proofs.append.write_decimal.Kinds as write-decimal-kinds

@@ -10,7 +10,7 @@ use lib.Dec.{T as Holds}
 use mir.Syntax.{named, w8, w16, tyUnit}
 use mir.Val.{Val, vunit, vint, vptr, vstruct, vnil, vcons, hasTy, WT}
 use base.Logic.{SProp, ent, sep, guard, via, exE, fst∗, snd∗, id⊢}
-use base.Fml.{GName, Fml, ftrue, fsep, fat, flft, fres, flent}
+use base.Fml.{GName, ftrue, fsep, fat, flft, fres, flent}
 use prog.Memory.{Memory}
 use prog.Routine.{Routine}
 use prog.Wp.{Heap, Calls, Loops, WpFn, Tables}
@@ -29,7 +29,6 @@ use denote.Lend.{lends-ref, ref-back}
 use denote.Plain.{uint-vals, uint-tells, uint-makes}
 use denote.Builtin.{u8, unit}
 use denote.Ref.{RefT, MutRef}
-use denote.Signature.{plain}
 use denote.Steps.{only, owned, peeks, nothing}
 use denote.Struct.Steps.{spelt}
 use denote.Struct.Laws as LL

@@ -2,7 +2,7 @@
 use Prim.Native.Nat.{_-_}
 use mathlib.Core.Path.{_≡_, sym, _∙_}
 use lib.ListN.{length, length-map}
-use Rattle.token.proofs.ApiKnown.{Counted, counted-none, counted-one, counted-other, counted-all}
+use Rattle.token.proofs.ApiKnown.{Counted, counted-one, counted-other, counted-all}
 use borrow.Author.Needs.{needs}
 use Rattle.text.proofs.keys.count_known.Statement.{statement}
 use Rattle.text.proofs.keys.count_known.Tie as tie

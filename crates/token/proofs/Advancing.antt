@@ -21,12 +21,13 @@ use Rattle.sheets.proofs.Walks.{command-at, command-holdable}
 use Rattle.deciding.specs.declared.Command.{Command as Stored}
 use Rattle.deciding.specs.declared.View.{View}
 use Rattle.deciding.specs.declared.Decision.{Decision}
+use Rattle.deciding.specs.Commands.{commandOf}
 use Rattle.deciding.specs.Decisions.{decided}
 use Rattle.token.specs.declared.Token.{Token}
 use Rattle.token.specs.Shows.{Shows}
 use Rattle.token.specs.Views.{viewOf, Findable}
 use Rattle.token.specs.Applied.{Applicable, Applied}
-use Rattle.token.specs.Direct.{commandOf, ComesFrom, Reached, SteppedBy}
+use Rattle.token.specs.Direct.{ComesFrom, Reached}
 use Rattle.reader.proofs.GoodEntries.{good-entry}
 use Rattle.token.specs.Advance.{command-of, command-in, record-put, RunAsks, RanBy, Ran}
 use Rattle.token.proofs.ShownCounts.{few-keys}

@@ -1,10 +1,8 @@
 -- The view that is read piece by piece is the view of the token's parts. Rests on specs/Views.antt.
 use Prim.Native.Nat.{ℕ, _<_}
-use mathlib.Core.Path.{_≡_, refl, _∙_}
-use mathlib.Core.Bool.{Bool}
+use mathlib.Core.Path.{_≡_, _∙_}
 use mathlib.Core.List.{List}
 use native.Mathlib.Omega.{arith}
-use lib.Dec.{ltb}
 use lib.ListN.{getD}
 use Rattle.deciding.specs.declared.TermNo.{TermNo}
 use Rattle.deciding.specs.declared.Entry.{Entry}
@@ -12,18 +10,14 @@ use Rattle.deciding.specs.declared.Slot.{Slot}
 use Rattle.token.specs.declared.Table.{Table}
 use Rattle.token.specs.declared.Hands.{Hands}
 use Rattle.token.specs.declared.Names.{Names}
-use Rattle.deciding.specs.declared.Handle.{Handle}
-use Rattle.deciding.specs.declared.Lookup.{Lookup}
 use Rattle.deciding.specs.declared.Equal.{Equal}
-use Rattle.deciding.specs.declared.Free.{Free}
 use Rattle.deciding.specs.declared.View.{View}
 use Rattle.deciding.specs.declared.Command.{Command}
 use Rattle.deciding.specs.declared.Command.the-variants.{Generate, Wrap, Unwrap, Encrypt, Decrypt, Corrupt, Destroy}
 use Rattle.deciding.specs.declared.Command.the-variants.{OwnKey, OwnData, Seal}
-use Rattle.token.specs.Live.{bit, free-in}
 use Rattle.token.specs.Shows.{blank-entry, blank-slot}
 use Rattle.deciding.specs.Decisions.{payloadNo}
-use Rattle.token.specs.Views.{seenIn, namesOf, inside, handleIn, lookupIn, aimOf, equalIn, viewOf}
+use Rattle.token.specs.Views.{seenIn, namesOf, inside, aimOf, equalIn, viewOf}
 
 -- a seal's code is above 0
 pub aim-positive : (c : Command) (a b : Slot) (t : Entry) → 0 < aimOf c a b t

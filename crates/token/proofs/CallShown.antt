@@ -6,21 +6,19 @@ use mathlib.Core.Path.{_≡_, refl, sym, ap, ap₂, subst, _∙_}
 use mathlib.Core.Bool.{Bool, true, false}
 use mathlib.Core.List.{List, [], _∷_}
 use lib.ListN.{length, getD, take}
-use Rattle.terms.specs.Lists.{_∈_}
 use Rattle.terms.proofs.Lists.{in-at, at-getD}
 use Rattle.rules.specs.Templates.{Policy}
 use Rattle.rules.specs.Commands.{Command}
 use Rattle.rules.specs.State.{State}
-use Rattle.rules.specs.Runs.{Answer, Step, Run, ends, then}
+use Rattle.rules.specs.Runs.{Answer, Run, ends, then}
 use Rattle.sheets.specs.Bytes.{Bytes, two, byte-at, two-at}
 use Rattle.sheets.specs.Reports.{records-bytes}
 use Rattle.sheets.specs.Calls.{over}
 use Rattle.sheets.specs.Reading.{read-command, read-commands}
 use Rattle.token.specs.declared.Token.{Token}
-use Rattle.token.specs.declared.Called.{Called}
 use Rattle.token.specs.Shows.{Shows}
-use Rattle.token.specs.Direct.{not-a-call, Reached, ComesFrom, SteppedBy, CallAnswer, Answered}
-use Rattle.token.specs.Advance.{RunAsks, RanBy, Ran}
+use Rattle.token.specs.Direct.{not-a-call, Reached, SteppedBy, CallAnswer, Answered}
+use Rattle.token.specs.Advance.{RunAsks, Ran}
 use Rattle.token.specs.OneCommand.{one-command}
 use Rattle.token.proofs.OneCommand.{IsCall, is-call, ReadsOne, one-read}
 
@@ -39,7 +37,8 @@ none-answered token policy number body e p s comes =
     (record { answers-1 = refl; no-value = refl; same-token = refl })
 
 -- the run of one command is one step, and its record says what the step answered
-one-step : {p : Policy} {s end : State} {c : Command} {said : List Answer} (before : List ℕ) {after : List ℕ} {r : Token} → Run p s (c ∷ []) said end
+one-step : {p : Policy} {s end : State} {c : Command} {said : List Answer} (before : List ℕ) {after : List ℕ} {r : Token}
+    → Run p s (c ∷ []) said end
     → after ≡ over (records-bytes said) before
     → (shows-end : Shows r end)
     → SteppedBy p s c (record { token = r; answer = getD after 0 0; value = two-at after 1 })
@@ -82,7 +81,8 @@ module _ (policy number : ℕ) (body : List ℕ) (below : (i : ℕ) → getD bod
           room = omega (arith, long);
         })
 
-    pub one-answered : {token : Token} {before after : List ℕ} {r : Token} → Ran token policy (take (6 + length body - 0) ten) 1 before after r
+    pub one-answered : {token : Token} {before after : List ℕ} {r : Token}
+        → Ran token policy (take (6 + length body - 0) ten) 1 before after r
         → {value : ℕ}
         → value ≡ two-at after 1
         → Answered token policy number body (record { token = r; answer = getD after 0 0; value = value })

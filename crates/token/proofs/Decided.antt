@@ -20,7 +20,7 @@ use Rattle.token.specs.declared.Token.{Token}
 use Rattle.token.specs.Shows.{seal-code, Shows}
 use Rattle.deciding.specs.Decisions.{decided, keyOf}
 use Rattle.token.specs.Views.{viewOf, namesOf, aimOf, equalIn, slotAt, entryAt}
-use Rattle.token.specs.Direct.{commandOf}
+use Rattle.deciding.specs.Commands.{commandOf}
 use Rattle.token.proofs.SeenParts.{slot-key, slot-term}
 use Rattle.token.proofs.Seen.{slot-seen, handle-seen, entry-seen, lookup-seen, live-entry, payload-entry, live-key-in}
 use Rattle.token.proofs.Seen.{term-in, term-number, key-number-seen}

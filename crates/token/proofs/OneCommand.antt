@@ -5,7 +5,7 @@ use Prim.Native.Nat.{ℕ, zero, suc, _+_, _≤_, _<_}
 use native.Mathlib.Omega.{arith}
 use mathlib.Core.Path.{_≡_, refl, sym, ap, subst, _∙_}
 use mathlib.Core.Bool.{Bool, true, false, not}
-use mathlib.Core.List.{List, [], _∷_, _++_, append-nil}
+use mathlib.Core.List.{List, [], _∷_, append-nil}
 use mathlib.Core.Option.{none}
 use lib.Dec.{eqb}
 use borrow.Author.Tests.{lt-ltb, le-ltb, ltb-false, eqb-true, not-false}
@@ -103,7 +103,9 @@ module _ {policy n : ℕ} {b : List ℕ} (bytes : Bytes b) (call : IsCall policy
       record {
         few = omega arith;
         holdable = each-cons Holdable c [] (states .holdable) (each-nil Holdable);
-        bytes = cut policy n b (length b) (call .short) ∙ sym (one-written (read-policy policy) c ∙ rw (policy-is, states .numbered, body-is) refl);
+        bytes =
+            cut policy n b (length b) (call .short)
+            ∙ sym (one-written (read-policy policy) c ∙ rw (policy-is, states .numbered, body-is) refl);
       }
 
   pub one-read : ReadsOne (take (6 + length b) (one-command policy n b)) (read-command n b)

@@ -29,13 +29,13 @@ use Rattle.deciding.specs.declared.Change.the-variants.{Nothing}
 use Rattle.deciding.specs.declared.Decision.{Decision}
 use Rattle.deciding.specs.declared.View.{View}
 use Rattle.token.specs.declared.Token.{Token}
-use Rattle.token.specs.declared.Called.{Called}
 use Rattle.deciding.specs.declared.Entry.{Entry}
 use Rattle.token.specs.Shows.{Shows, blank-entry, entry-of, entry-for, code-of}
+use Rattle.deciding.specs.Commands.{commandOf}
 use Rattle.deciding.specs.Decisions.{decided}
 use Rattle.token.specs.Views.{viewOf, Findable}
 use Rattle.token.specs.Applied.{Applicable, Applied}
-use Rattle.token.specs.Direct.{commandOf, ComesFrom, Reached, SteppedBy}
+use Rattle.token.specs.Direct.{ComesFrom, Reached, SteppedBy}
 use Rattle.token.proofs.ChangeFor.{change-for, value-for}
 use Rattle.token.proofs.DecidedBy.{refusal-for, Decides, policy-read}
 use Rattle.token.proofs.Decided.{decides}

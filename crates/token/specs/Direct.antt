@@ -3,17 +3,16 @@
 -- above 2, under any one)." Assumes nothing.
 use Prim.Native.Nat.{ℕ, _≤_}
 use mathlib.Core.Path.{_≡_}
-use mathlib.Core.Bool.{Bool, true, false, not, _||_}
+use mathlib.Core.Bool.{Bool, true, false, _||_}
 use mathlib.Core.List.{List}
-use lib.Dec.{ltb, eqb}
-use lib.ListN.{length}
+use lib.Dec.{ltb}
 use Rattle.rules.specs.Templates.{Policy}
 use Rattle.rules.specs.Commands.{Command}
 use Rattle.rules.specs.State.{State}
-use Rattle.rules.specs.Runs.{Answer, Step, Reachable}
+use Rattle.rules.specs.Runs.{Step, Reachable}
 use Rattle.sheets.specs.Sheets.{policy-number}
 use Rattle.sheets.specs.Reading.{read-command}
-unfoldable pub use Rattle.deciding.specs.Commands.{commandOf, no-command}
+unfoldable pub use Rattle.deciding.specs.Commands.{no-command}
 use Rattle.token.specs.declared.Token.{Token}
 use Rattle.token.specs.declared.Called.{Called}
 use Rattle.token.specs.Shows.{Shows}

@@ -34,8 +34,12 @@ slice-aggregate-advance c = search needs
 
 advance-requires : tie.Need-advance-requires
 advance-requires c κs =
-    one-asked _ _ _ (λ i. c .before .before .before .before .before .before .shared-slice-known .given i .fits)
-    (sym (c .before .before .before .before .before .not-a-call .ensures) ∙ c .before .before .before .before .if1 .left) (c .before .before .before .one-command .ensures) (c .before .before .before .before .before .before .before .pre) refl
+    let c3 = c .before .before .before in
+    let c4 = c3 .before in
+    let c5 = c4 .before in
+    let c6 = c5 .before in
+    one-asked _ _ _ (λ i. c6 .shared-slice-known .given i .fits) (sym (c5 .not-a-call .ensures) ∙ c4 .if1 .left)
+    (c3 .one-command .ensures) (c6 .before .pre) refl
 
 array-read-t20 : tie.Need-array-read-t20
 array-read-t20 c = search needs
@@ -48,9 +52,12 @@ value-in-requires c κs = omega (arith, c .before .said2 .given)
 
 returns-2 : tie.Need-returns-2
 returns-2 c =
-    one-answered _ _ _ (λ i. c .before .before .before .before .before .before .before .before .before .before .shared-slice-known .given i .fits)
-    (sym (c .before .before .before .before .before .before .before .before .before .not-a-call .ensures) ∙ c .before .before .before .before .before .before .before .before .if1 .left) (c .before .before .before .before .before .before .before .one-command .ensures) (c .before .before .before .advance .ensures)
-    (c .value-in .ensures)
+    let c3 = c .before .before .before in
+    let c7 = c3 .before .before .before .before in
+    let c8 = c7 .before in
+    let c9 = c8 .before in
+    one-answered _ _ _ (λ i. c9 .before .shared-slice-known .given i .fits) (sym (c9 .not-a-call .ensures) ∙ c8 .if1 .left)
+    (c7 .one-command .ensures) (c3 .advance .ensures) (c .value-in .ensures)
 
 pub call-spec : {M : Type 1} → statement M
 call-spec =

@@ -1,15 +1,8 @@
--- `seen` meets its contract.
+-- `seen` meets its contract: each handle and each term that is named is read as live or dead, there or not, and the rest as it was read.
+use borrow.Author.Needs.{needs}
 use Rattle.token.specs.Views.{seenIn}
-use borrow.Author.Needs.{needs}
-use mathlib.Core.Path.{_≡_, refl, sym, ap, _∙_}
-use Rattle.token.specs.Views.{seenIn}
-use borrow.Author.Needs.{needs}
-use mathlib.Core.Path.{_≡_, refl, sym, ap, _∙_}
-use borrow.Author.Needs.{needs}
 use Rattle.token.proofs.look.seen.Statement.{statement}
 use Rattle.token.proofs.look.seen.Tie as tie
-
--- `seen` meets its contract.
 
 is-live-requires : tie.Need-is-live-requires
 is-live-requires c κs = search needs

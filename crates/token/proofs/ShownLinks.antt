@@ -15,7 +15,8 @@ use Rattle.deciding.specs.declared.Term.{Term as Kind}
 use Rattle.deciding.specs.declared.Term.the-variants.{Data, Key}
 use Rattle.deciding.specs.declared.Entry.{Entry}
 use Rattle.token.specs.declared.Links.{Links}
-use Rattle.token.specs.Shows.{ShowsLinks, blank-entry, code-of, seal-code, under-chain, bucket-chain}
+use Rattle.token.proofs.ChainsFound.{bucket-inside}
+use Rattle.token.specs.Shows.{ShowsLinks, blank-entry, code-of, seal-code, under-chain, bucket, bucket-chain}
 use Rattle.token.specs.Leaks.{kind-at}
 use Rattle.token.specs.Applied.{linked, seal-entry}
 use Rattle.token.proofs.ChainsKept.{linked-same, linked-none, linked-more}
@@ -87,7 +88,8 @@ module _ {links : Links} {entries : List Entry} {n : ℕ} (inside : n < most-ter
             linked-more (k .0) (ap (λ (x : Entry). under-chain (x .term)) (here e)) inside small
             (linked-same chains (shown .by-key));
         by-bucket =
-            linked-more (seal-code (k .0) (p .0) % 1024) (ap bucket-chain code-here) inside (omega arith)
+            linked-more (bucket (seal-code (k .0) (p .0))) (ap bucket-chain code-here) inside
+            (bucket-inside (seal-code (k .0) (p .0)))
             (linked-same buckets (shown .by-bucket));
       }
     where

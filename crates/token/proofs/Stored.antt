@@ -25,7 +25,7 @@ use Rattle.token.specs.declared.Table.{Table}
 use Rattle.token.specs.declared.Links.{Links}
 use Rattle.token.specs.declared.Hands.{Hands}
 use Rattle.token.specs.declared.Token.{Token}
-use Rattle.token.specs.Shows.{blank-entry, blank-slot, seal-code}
+use Rattle.token.specs.Shows.{blank-entry, blank-slot, seal-code, bucket}
 use Rattle.token.specs.Stores.{HandPut, SlotStored, entryStored}
 use Rattle.token.specs.Leaks.{Followable}
 use Rattle.deciding.specs.Decisions.{keyOf}
@@ -116,17 +116,17 @@ stored-inside t at e grown (NewSeal k p leaks) room h same = rw same (room .for-
 stored-inside t at e grown (Know p) room h same = rw same h
 
 -- the five stores that put a seal into its chains
-pub linked-by : (links : Links) (i k p : ℕ) {code : ℕ} → code ≡ seal-code k p
+pub linked-by : (links : Links) (i k p : ℕ) {code : ℕ} → code ≡ seal-code k p → {place : ℕ} → place ≡ bucket code
     → _≡_ {A = Links}
     (record {
       newest = set (links .newest) k (i + 1);
       older = set (links .older) i (getD (links .newest) k 0);
-      heads = set (links .heads) (code % 1024) (i + 1);
-      chain = set (links .chain) i (getD (links .heads) (code % 1024) 0);
+      heads = set (links .heads) place (i + 1);
+      chain = set (links .chain) i (getD (links .heads) place 0);
       codes = set (links .codes) i code;
     })
     (linked links i k p)
-linked-by links i k p e = rw (e, add-one) refl
+linked-by links i k p e f = rw (f, e, add-one) refl
 
 -- a seal that is appended and linked: its leak can be followed where the room for it was given, and what comes of it is the change
 module _ (t : Token) (k : KeyNo) (p : TermNo) (leaks : Bool) {table : Table} (grown : table ≡ appended (t .table) (seal-entry k p))

@@ -19,7 +19,7 @@ use Rattle.token.specs.declared.Token.{Token}
 use Rattle.deciding.specs.declared.Change.{Change}
 use Rattle.deciding.specs.declared.Change.the-variants.{Nothing, Bind, Release, NewKey, OwnKey, OwnData, NewSeal, Know}
 use Rattle.token.specs.Live.{BitSet}
-use Rattle.token.specs.Shows.{entry, blank-slot, seal-code}
+use Rattle.token.specs.Shows.{entry, blank-slot, seal-code, bucket}
 use Rattle.token.specs.Leaks.{Followed, Followable, kind-at}
 use Rattle.deciding.specs.Decisions.{keyOf}
 
@@ -44,8 +44,8 @@ linked links i k p =
     record {
       newest = set (links .newest) k (suc i);
       older = set (links .older) i (getD (links .newest) k 0);
-      heads = set (links .heads) (seal-code k p % 1024) (suc i);
-      chain = set (links .chain) i (getD (links .heads) (seal-code k p % 1024) 0);
+      heads = set (links .heads) (bucket (seal-code k p)) (suc i);
+      chain = set (links .chain) i (getD (links .heads) (bucket (seal-code k p)) 0);
       codes = set (links .codes) i (seal-code k p);
     }
 

@@ -1,7 +1,7 @@
 -- A token shows a state: each entry stands beside the term of its number, each slot beside the handle of its number, the counts
 -- and the links are those of the state, and everything past the counts, and every dead handle's slot, is one fixed blank. So a
 -- state is shown by one token only (proofs/Shown.antt). Assumes nothing.
-use Prim.Native.Nat.{ℕ, zero, suc, _+_, _*_, _%_, _≤_, _<_}
+use Prim.Native.Nat.{ℕ, zero, suc, _+_, _*_, _/_, _%_, _≤_, _<_}
 use mathlib.Core.Path.{_≡_}
 use mathlib.Core.Bool.{Bool, true, false}
 use mathlib.Core.List.{List}
@@ -44,8 +44,7 @@ unfoldable pub slot-for : List Term → Handle → Slot
 slot-for table dead = blank-slot
 slot-for table (live k f) = record { key = record { 0 = k }; term = record { 0 = number-of table (key k) }; flags = f }
 
--- the code of a seal, which no other seal has, and 0 for every other term. It is 1025 and not 1024 so that a seal's bucket, its code
--- modulo 1024, turns on the key as well as on the payload
+-- the code of a seal, which no other seal has, and 0 for every other term
 abbrev pub seal-code : (k p : ℕ) → ℕ
 seal-code k p = suc (k * 1025 + p)
 
@@ -60,9 +59,13 @@ under-chain Data = 0
 under-chain (Key k) = 0
 under-chain (Seal k p) = suc (k .0)
 
+-- the bucket of a code: a multiple of it, of which the middle is taken, so that codes in a row or in steps are spread over the 1,024
+unfoldable pub bucket : (code : ℕ) → ℕ
+bucket code = code * 40503 / 64 % 1024
+
 unfoldable pub bucket-chain : (code : ℕ) → ℕ
 bucket-chain zero = 0
-bucket-chain (suc c) = suc (suc c % 1024)
+bucket-chain (suc c) = suc (bucket (suc c))
 
 pub record ShowsLinks (links : Links) (entries : List Entry) (n : ℕ) : Type 0 where
   pub codes-length : length (links .codes) ≡ most-terms

@@ -10,6 +10,7 @@ ghost use Rattle.token.specs.Advance.{command-in, record-put, RunAsks, R
 use crate::EntryPut;
 use crate::SlotPut;
 use crate::Token;
+use crate::find::bucket_of;
 use crate::find::find;
 use crate::leaks::follow;
 use crate::live::set_dead;
@@ -211,7 +212,7 @@ pub fn advance(token: Token, policy: u8, sheet: &[u8], n: u16, records: &mut [u8
         let code = code(k.0, p.0);
         let at = terms as usize;
         let over = k.0 as usize;
-        let bucket = (code % 1024) as usize;
+        let bucket = bucket_of(code);
         links.older[at] = links.newest[over];
         links.newest[over] = terms + 1;
         links.chain[at] = links.heads[bucket];

@@ -1,9 +1,19 @@
 // Finding the equal of a seal by its code, through the chain of its bucket.
 ghost use mathlib.Core.Path.{_≡_};
 ghost use Prim.Native.Nat.{_<_};
+ghost use Rattle.rules.specs.State.{most-terms};
+ghost use Rattle.token.specs.Shows.{bucket};
 ghost use Rattle.token.specs.Views.{Findable, equalIn};
 use deciding::Equal;
 use deciding::TermNo;
+
+// The bucket of a code.
+pub fn bucket_of(code: u32) -> usize
+    ensures { λ r. ⌜ r ≡ bucket code ⌝ }
+    ensures { λ r. ⌜ r < most-terms ⌝ }
+{
+    ((code as u64) * 40503 / 64 % 1024) as usize
+}
 
 // The number of the seal with this code, where there is one.
 pub fn find<'a>(
@@ -16,7 +26,7 @@ pub fn find<'a>(
     requires { ⌜ 0 < code ⌝ }
     ensures { λ r. ⌜ r ≡ equalIn (now (codes .entry)) code ⌝ }
 {
-    let bucket = (code % 1024) as usize;
+    let bucket = bucket_of(code);
     let mut link = heads[bucket];
     while link != 0 {
         let i = (link - 1) as usize;

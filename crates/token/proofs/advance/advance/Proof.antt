@@ -317,18 +317,18 @@ cast-at c =
 cast-over : tie.Need-cast-over Inv-loop μ-loop
 cast-over c = search needs
 
-cast-bucket : tie.Need-cast-bucket Inv-loop μ-loop
-cast-bucket c = search needs
+bucket-of-requires : tie.Need-bucket-of-requires Inv-loop μ-loop
+bucket-of-requires c κs = search needs
 
 mul-links : tie.Need-mul-links Inv-loop μ-loop
 mul-links c = search needs
 
 element-copy-out-links : tie.Need-element-copy-out-links Inv-loop μ-loop
 element-copy-out-links c =
-    let c3 = c .before .before .before in
-    let c13 = c3 .before .before .before .before .before .before .before .before .before .before in
-    let c15 = c13 .before .before in
-    (rw (c3 .change .given .1) at (applicable (c15))) .key-inside
+    let c4 = c .before .before .before .before in
+    let c14 = c4 .before .before .before .before .before .before .before .before .before .before in
+    let c16 = c14 .before .before in
+    (rw (c4 .change .given .1) at (applicable (c16))) .key-inside
 
 mul-links-2 : tie.Need-mul-links-2 Inv-loop μ-loop
 mul-links-2 c =
@@ -336,15 +336,15 @@ mul-links-2 c =
     let c20 = c10 .before .before .before .before .before .before .before .before .before .before in
     let c30 = c20 .before .before .before .before .before .before .before .before .before .before in
     let c40 = c30 .before .before .before .before .before .before .before .before .before .before in
-    let c43 = c40 .before .before .before in
-    record { fits = omega (arith, terms-few (c43 .loop .inv)) }
+    let c44 = c40 .before .before .before .before in
+    record { fits = omega (arith, terms-few (c44 .loop .inv)) }
 
 element-write-links : tie.Need-element-write-links Inv-loop μ-loop
 element-write-links c =
-    let c4 = c .before .before .before .before in
-    let c14 = c4 .before .before .before .before .before .before .before .before .before .before in
-    let c16 = c14 .before .before in
-    (rw (c4 .change .given .1) at (applicable (c16))) .for-term .few-terms
+    let c5 = c .before .before .before .before .before in
+    let c15 = c5 .before .before .before .before .before .before .before .before .before .before in
+    let c17 = c15 .before .before in
+    (rw (c5 .change .given .1) at (applicable (c17))) .for-term .few-terms
 
 add-links : tie.Need-add-links Inv-loop μ-loop
 add-links c =
@@ -352,18 +352,18 @@ add-links c =
     let c20 = c10 .before .before .before .before .before .before .before .before .before .before in
     let c30 = c20 .before .before .before .before .before .before .before .before .before .before in
     let c40 = c30 .before .before .before .before .before .before .before .before .before .before in
-    let c43 = c40 .before .before .before in
-    record { fits = omega (arith, terms-few (c43 .loop .inv)) }
+    let c44 = c40 .before .before .before .before in
+    record { fits = omega (arith, terms-few (c44 .loop .inv)) }
 
 mul-links-3 : tie.Need-mul-links-3 Inv-loop μ-loop
 mul-links-3 c = search needs
 
 element-write-links-2 : tie.Need-element-write-links-2 Inv-loop μ-loop
 element-write-links-2 c =
-    let c4 = c .before .before .before .before in
-    let c14 = c4 .before .before .before .before .before .before .before .before .before .before in
-    let c16 = c14 .before .before in
-    (rw (c4 .change .given .1) at (applicable (c16))) .key-inside
+    let c5 = c .before .before .before .before .before in
+    let c15 = c5 .before .before .before .before .before .before .before .before .before .before in
+    let c17 = c15 .before .before in
+    (rw (c5 .change .given .1) at (applicable (c17))) .key-inside
 
 mul-links-4 : tie.Need-mul-links-4 Inv-loop μ-loop
 mul-links-4 c = search needs
@@ -377,15 +377,15 @@ mul-links-5 c =
     let c20 = c10 .before .before .before .before .before .before .before .before .before .before in
     let c30 = c20 .before .before .before .before .before .before .before .before .before .before in
     let c40 = c30 .before .before .before .before .before .before .before .before .before .before in
-    let c44 = c40 .before .before .before .before in
-    record { fits = omega (arith, terms-few (c44 .loop .inv)) }
+    let c45 = c40 .before .before .before .before .before in
+    record { fits = omega (arith, terms-few (c45 .loop .inv)) }
 
 element-write-links-3 : tie.Need-element-write-links-3 Inv-loop μ-loop
 element-write-links-3 c =
-    let c5 = c .before .before .before .before .before in
-    let c15 = c5 .before .before .before .before .before .before .before .before .before .before in
-    let c17 = c15 .before .before in
-    (rw (c5 .change .given .1) at (applicable (c17))) .for-term .few-terms
+    let c6 = c .before .before .before .before .before .before in
+    let c16 = c6 .before .before .before .before .before .before .before .before .before .before in
+    let c18 = c16 .before .before in
+    (rw (c6 .change .given .1) at (applicable (c18))) .for-term .few-terms
 
 add-links-2 : tie.Need-add-links-2 Inv-loop μ-loop
 add-links-2 c =
@@ -393,8 +393,8 @@ add-links-2 c =
     let c20 = c10 .before .before .before .before .before .before .before .before .before .before in
     let c30 = c20 .before .before .before .before .before .before .before .before .before .before in
     let c40 = c30 .before .before .before .before .before .before .before .before .before .before in
-    let c44 = c40 .before .before .before .before in
-    record { fits = omega (arith, terms-few (c44 .loop .inv)) }
+    let c45 = c40 .before .before .before .before .before in
+    record { fits = omega (arith, terms-few (c45 .loop .inv)) }
 
 mul-links-6 : tie.Need-mul-links-6 Inv-loop μ-loop
 mul-links-6 c = search needs
@@ -408,15 +408,15 @@ mul-links-7 c =
     let c20 = c10 .before .before .before .before .before .before .before .before .before .before in
     let c30 = c20 .before .before .before .before .before .before .before .before .before .before in
     let c40 = c30 .before .before .before .before .before .before .before .before .before .before in
-    let c44 = c40 .before .before .before .before in
-    record { fits = omega (arith, terms-few (c44 .loop .inv)) }
+    let c45 = c40 .before .before .before .before .before in
+    record { fits = omega (arith, terms-few (c45 .loop .inv)) }
 
 element-write-links-5 : tie.Need-element-write-links-5 Inv-loop μ-loop
 element-write-links-5 c =
-    let c5 = c .before .before .before .before .before in
-    let c15 = c5 .before .before .before .before .before .before .before .before .before .before in
-    let c17 = c15 .before .before in
-    (rw (c5 .change .given .1) at (applicable (c17))) .for-term .few-terms
+    let c6 = c .before .before .before .before .before .before in
+    let c16 = c6 .before .before .before .before .before .before .before .before .before .before in
+    let c18 = c16 .before .before in
+    (rw (c6 .change .given .1) at (applicable (c18))) .for-term .few-terms
 
 loop-less-3 : tie.Need-loop-less-3 Inv-loop μ-loop
 loop-less-3 c =
@@ -424,28 +424,29 @@ loop-less-3 c =
     let c20 = c10 .before .before .before .before .before .before .before .before .before .before in
     let c30 = c20 .before .before .before .before .before .before .before .before .before .before in
     let c40 = c30 .before .before .before .before .before .before .before .before .before .before in
-    let c44 = c40 .before .before .before .before in
-    omega (arith, c44 .loop-test .taken)
+    let c45 = c40 .before .before .before .before .before in
+    omega (arith, c45 .loop-test .taken)
 
 loop-again-3 : tie.Need-loop-again-3 Inv-loop μ-loop
 loop-again-3 c =
-    let c4 = c .before .before .before .before in
-    let c6 = c4 .before .before in
-    let c9 = c6 .before .before .before in
-    let c13 = c9 .before .before .before .before in
-    let c16 = c13 .before .before .before in
-    let c18 = c16 .before .before in
-    let c19 = c18 .before in
-    let c29 = c19 .before .before .before .before .before .before .before .before .before .before in
-    let c37 = c29 .before .before .before .before .before .before .before .before in
-    let c42 = c37 .before .before .before .before .before in
-    let c43 = c42 .before in
+    let c3 = c .before .before .before in
+    let c5 = c3 .before .before in
+    let c7 = c5 .before .before in
+    let c10 = c7 .before .before .before in
+    let c14 = c10 .before .before .before .before in
+    let c17 = c14 .before .before .before in
+    let c19 = c17 .before .before in
+    let c20 = c19 .before in
+    let c30 = c20 .before .before .before .before .before .before .before .before .before .before in
+    let c38 = c30 .before .before .before .before .before .before .before .before in
+    let c43 = c38 .before .before .before .before .before in
     let c44 = c43 .before in
     let c45 = c44 .before in
-    advance-on (c45 .loop .inv) (c44 .loop-test .taken) (c43 .command-in .ensures) (sees (c19)) (c18 .decide .ensures)
-    (c16 .put-record .ensures) (new-seal-kept _ (c42 .names-of .result .a .0) refl (c37 .place .result) refl
-    (c13 .slot-put .result) (c9 .entry-put .result) (c13 .slot-put .ensures, c9 .entry-put .ensures) (c6 .change .given .1)
-    (linked-by (c45 .loop .links) _ _ _ (c4 .code .ensures)) (not-true _ (c .if1 .taken)))
+    let c46 = c45 .before in
+    advance-on (c46 .loop .inv) (c45 .loop-test .taken) (c44 .command-in .ensures) (sees (c20)) (c19 .decide .ensures)
+    (c17 .put-record .ensures) (new-seal-kept _ (c43 .names-of .result .a .0) refl (c38 .place .result) refl
+    (c14 .slot-put .result) (c10 .entry-put .result) (c14 .slot-put .ensures, c10 .entry-put .ensures) (c7 .change .given .1)
+    (linked-by (c46 .loop .links) _ _ _ (c5 .code .ensures) (c3 .bucket-of .ensures .0)) (not-true _ (c .if1 .taken)))
 
 cast-known-2 : tie.Need-cast-known-2 Inv-loop μ-loop
 cast-known-2 c = search needs
@@ -455,10 +456,10 @@ mul-known-2 c = search needs
 
 element-copy-out-known-2 : tie.Need-element-copy-out-known-2 Inv-loop μ-loop
 element-copy-out-known-2 c =
-    let c7 = c .before .before .before .before .before .before .before in
-    let c17 = c7 .before .before .before .before .before .before .before .before .before .before in
-    let c19 = c17 .before .before in
-    (rw (c7 .change .given .1) at (applicable (c19))) .payload-inside
+    let c8 = c .before .before .before .before .before .before .before .before in
+    let c18 = c8 .before .before .before .before .before .before .before .before .before .before in
+    let c20 = c18 .before .before in
+    (rw (c8 .change .given .1) at (applicable (c20))) .payload-inside
 
 key-of-requires-2 : tie.Need-key-of-requires-2 Inv-loop μ-loop
 key-of-requires-2 c κs = search needs
@@ -466,19 +467,20 @@ key-of-requires-2 c κs = search needs
 follow-requires-2 : tie.Need-follow-requires-2 Inv-loop μ-loop
 follow-requires-2 c κs =
     let c6 = c .before .before .before .before .before .before in
-    let c10 = c6 .before .before .before .before in
-    let c12 = c10 .before .before in
-    let c15 = c12 .before .before .before in
-    let c19 = c15 .before .before .before .before in
-    let c24 = c19 .before .before .before .before .before in
-    let c34 = c24 .before .before .before .before .before .before .before .before .before .before in
-    let c43 = c34 .before .before .before .before .before .before .before .before .before in
-    let c48 = c43 .before .before .before .before .before in
-    let c51 = c48 .before .before .before in
-    new-seal-followable _ (c48 .names-of .result .a .0) refl (c43 .place .result) refl (c19 .slot-put .result)
-    (c15 .entry-put .result) (c19 .slot-put .ensures, c15 .entry-put .ensures) (c12 .change .given .1)
-    (linked-by (c51 .loop .links) _ _ _ (c10 .code .ensures)) (applicable (c24)) (not-false _ (c6 .if1 .left))
-    (c .key-of2 .ensures)
+    let c9 = c6 .before .before .before in
+    let c11 = c9 .before .before in
+    let c13 = c11 .before .before in
+    let c16 = c13 .before .before .before in
+    let c20 = c16 .before .before .before .before in
+    let c25 = c20 .before .before .before .before .before in
+    let c35 = c25 .before .before .before .before .before .before .before .before .before .before in
+    let c44 = c35 .before .before .before .before .before .before .before .before .before in
+    let c49 = c44 .before .before .before .before .before in
+    let c52 = c49 .before .before .before in
+    new-seal-followable _ (c49 .names-of .result .a .0) refl (c44 .place .result) refl (c20 .slot-put .result)
+    (c16 .entry-put .result) (c20 .slot-put .ensures, c16 .entry-put .ensures) (c13 .change .given .1)
+    (linked-by (c52 .loop .links) _ _ _ (c11 .code .ensures) (c9 .bucket-of .ensures .0)) (applicable (c25))
+    (not-false _ (c6 .if1 .left)) (c .key-of2 .ensures)
 
 loop-less-4 : tie.Need-loop-less-4 Inv-loop μ-loop
 loop-less-4 c =
@@ -487,29 +489,31 @@ loop-less-4 c =
     let c30 = c20 .before .before .before .before .before .before .before .before .before .before in
     let c40 = c30 .before .before .before .before .before .before .before .before .before .before in
     let c50 = c40 .before .before .before .before .before .before .before .before .before .before in
-    let c51 = c50 .before in
-    omega (arith, c51 .loop-test .taken)
+    let c52 = c50 .before .before in
+    omega (arith, c52 .loop-test .taken)
 
 loop-again-4 : tie.Need-loop-again-4 Inv-loop μ-loop
 loop-again-4 c =
     let c7 = c .before .before .before .before .before .before .before in
-    let c11 = c7 .before .before .before .before in
-    let c13 = c11 .before .before in
-    let c16 = c13 .before .before .before in
-    let c20 = c16 .before .before .before .before in
-    let c23 = c20 .before .before .before in
-    let c25 = c23 .before .before in
-    let c26 = c25 .before in
-    let c36 = c26 .before .before .before .before .before .before .before .before .before .before in
-    let c44 = c36 .before .before .before .before .before .before .before .before in
-    let c49 = c44 .before .before .before .before .before in
-    let c50 = c49 .before in
+    let c10 = c7 .before .before .before in
+    let c12 = c10 .before .before in
+    let c14 = c12 .before .before in
+    let c17 = c14 .before .before .before in
+    let c21 = c17 .before .before .before .before in
+    let c24 = c21 .before .before .before in
+    let c26 = c24 .before .before in
+    let c27 = c26 .before in
+    let c37 = c27 .before .before .before .before .before .before .before .before .before .before in
+    let c45 = c37 .before .before .before .before .before .before .before .before in
+    let c50 = c45 .before .before .before .before .before in
     let c51 = c50 .before in
     let c52 = c51 .before in
-    advance-on (c52 .loop .inv) (c51 .loop-test .taken) (c50 .command-in .ensures) (sees (c26)) (c25 .decide .ensures)
-    (c23 .put-record .ensures) (new-seal-followed _ (c49 .names-of .result .a .0) refl (c44 .place .result) refl
-    (c20 .slot-put .result) (c16 .entry-put .result) (c20 .slot-put .ensures, c16 .entry-put .ensures) (c13 .change .given .1)
-    (linked-by (c52 .loop .links) _ _ _ (c11 .code .ensures)) (not-false _ (c7 .if1 .left)) (c .follow2 .ensures))
+    let c53 = c52 .before in
+    advance-on (c53 .loop .inv) (c52 .loop-test .taken) (c51 .command-in .ensures) (sees (c27)) (c26 .decide .ensures)
+    (c24 .put-record .ensures) (new-seal-followed _ (c50 .names-of .result .a .0) refl (c45 .place .result) refl
+    (c21 .slot-put .result) (c17 .entry-put .result) (c21 .slot-put .ensures, c17 .entry-put .ensures) (c14 .change .given .1)
+    (linked-by (c53 .loop .links) _ _ _ (c12 .code .ensures) (c10 .bucket-of .ensures .0)) (not-false _ (c7 .if1 .left))
+    (c .follow2 .ensures))
 
 same-length : tie.Need-same-length Inv-loop μ-loop
 same-length c =
@@ -577,7 +581,7 @@ advance-spec =
     code-requires
     cast-at
     cast-over
-    cast-bucket
+    bucket-of-requires
     mul-links
     element-copy-out-links
     mul-links-2

@@ -11,8 +11,8 @@ Inv-loop heads chain codes code bucket link₀ link = Walking codes code link
 abbrev μ-loop : tie.MeasureT-loop
 μ-loop heads chain codes code bucket link₀ link = link
 
-cast-bucket : tie.Need-cast-bucket Inv-loop μ-loop
-cast-bucket c = search needs
+bucket-of-requires : tie.Need-bucket-of-requires Inv-loop μ-loop
+bucket-of-requires c κs = search needs
 
 mul-link : tie.Need-mul-link Inv-loop μ-loop
 mul-link c = search needs
@@ -21,7 +21,7 @@ element-copy-out-link : tie.Need-element-copy-out-link Inv-loop μ-loop
 element-copy-out-link c = search needs
 
 loop-holds : tie.Need-loop-holds Inv-loop μ-loop
-loop-holds c = walk-begins _ _ _ _ (c .before .pre .0) (c .before .pre .1)
+loop-holds c = rw (c .before .bucket-of .ensures .0) (walk-begins _ _ _ _ (c .before .before .pre .0) (c .before .before .pre .1))
 
 sub-i : tie.Need-sub-i Inv-loop μ-loop
 sub-i c = search needs
@@ -35,14 +35,14 @@ mul-if1 c = search needs
 element-copy-out-if1 : tie.Need-element-copy-out-if1 Inv-loop μ-loop
 element-copy-out-if1 c = search needs
 
-sub-t19 : tie.Need-sub-t19 Inv-loop μ-loop
-sub-t19 c = search needs
+sub-t18 : tie.Need-sub-t18 Inv-loop μ-loop
+sub-t18 c = search needs
 
 returns : tie.Need-returns Inv-loop μ-loop
 returns c =
     walk-found _ _ _ _ _
-    (c .before .before .before .before .before .pre .0)
-    (c .before .before .before .before .before .pre .1)
+    (c .before .before .before .before .before .before .pre .0)
+    (c .before .before .before .before .before .before .pre .1)
     (c .before .before .before .loop .inv)
     (c .before .before .loop-test .taken)
     (c .if1 .taken)
@@ -56,16 +56,16 @@ element-copy-out-link-2 c = search needs
 loop-less : tie.Need-loop-less Inv-loop μ-loop
 loop-less c =
     walk-falls _ _ _ _ _
-    (c .before .before .before .before .before .before .pre .0)
-    (c .before .before .before .before .before .before .pre .1)
+    (c .before .before .before .before .before .before .before .pre .0)
+    (c .before .before .before .before .before .before .before .pre .1)
     (c .before .before .before .before .loop .inv)
     (c .before .before .before .loop-test .taken)
 
 loop-again : tie.Need-loop-again Inv-loop μ-loop
 loop-again c =
     walk-goes-on _ _ _ _ _
-    (c .before .before .before .before .before .before .pre .0)
-    (c .before .before .before .before .before .before .pre .1)
+    (c .before .before .before .before .before .before .before .pre .0)
+    (c .before .before .before .before .before .before .before .pre .1)
     (c .before .before .before .before .loop .inv)
     (c .before .before .before .loop-test .taken)
     (c .before .if1 .left)
@@ -79,7 +79,7 @@ find-spec =
     (tie.spec
     Inv-loop
     μ-loop
-    cast-bucket
+    bucket-of-requires
     mul-link
     element-copy-out-link
     loop-holds
@@ -87,7 +87,7 @@ find-spec =
     cast-i
     mul-if1
     element-copy-out-if1
-    sub-t19
+    sub-t18
     returns
     mul-link-2
     element-copy-out-link-2

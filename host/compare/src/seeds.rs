@@ -1,6 +1,6 @@
 //! seeds.rs: for one seed, both engines on what comes of it. An error says what differs and how to see it again.
 
-use harness::calls::calls;
+use harness::calls::{answers, calls, Calls};
 use harness::difference::{self, Expected};
 use harness::shrink::shrink;
 use harness::{plain, sheets};
@@ -50,52 +50,44 @@ pub fn all_cuts(seed: u64) -> Result<(), String> {
     Ok(())
 }
 
-/// Direct calls of this seed, all compared; gives how often each answer 0 to 11 came.
-pub fn direct(seed: u64) -> Result<[usize; 12], String> {
-    let list = calls(seed);
-    let (bytes, wanted) = (list.bytes(), list.answers());
-    let fault = |what: String| said("direct calls", seed, &what, &bytes);
+/// Direct calls of these seeds, many lists to a process, all compared; gives how often each answer 0 to 11 came.
+pub fn direct(seeds: impl IntoIterator<Item = u64>) -> Result<[usize; 12], String> {
     let mut seen = [0; 12];
-    wanted
-        .chunks(3)
-        .for_each(|record| seen[usize::from(record[0])] += 1);
-    // Just enough room, and more.
-    for more in [0, 8] {
-        let mut lent = vec![0xA5; wanted.len() + more];
-        let number = proved::calls(list.policy, &bytes, &mut lent);
-        if number != list.calls.len() as u32 {
-            return Err(fault(format!("{} calls, {number}", list.calls.len())));
+    let (mut row, mut of) = (Vec::new(), Vec::new());
+    for seed in seeds {
+        let bytes = calls(seed).bytes();
+        if row.len() + bytes.len() > proved::LONGEST_CALLS {
+            direct_row(&row, &of, &mut seen)?;
+            row.clear();
+            of.clear();
         }
-        let same = |(is, was): (&[u8], &[u8])| is == was;
-        let mut records = lent.chunks(3).zip(wanted.chunks(3));
-        if let Some(at) = records.position(|pair| !same(pair)) {
-            let (is, was) = (&lent[3 * at..3 * at + 3], &wanted[3 * at..3 * at + 3]);
-            return Err(fault(format!("call {}: {is:?}, expected {was:?}", at + 1)));
-        }
-        if lent[wanted.len()..].iter().any(|&byte| byte != 0xA5) {
-            return Err(fault("bytes behind the answers written".to_string()));
-        }
+        row.extend(bytes);
+        of.push(seed);
     }
-    refused_calls(list.policy, &bytes, wanted.len()).map_err(fault)?;
+    direct_row(&row, &of, &mut seen)?;
     Ok(seen)
 }
 
-/// The last call cut off is 12, a buffer too short is 13, and both write nothing.
-fn refused_calls(policy: u8, bytes: &[u8], needed: usize) -> Result<(), String> {
-    let mut wanted = Vec::new();
-    if let Some(cut) = bytes.len().checked_sub(1) {
-        wanted.push((&bytes[..cut], needed, 12));
-        wanted.push((bytes, needed - 1, 13));
-        wanted.push((bytes, 0, 13));
+/// One row of lists; where it differs, the first seed that differs alone, with its list at its shortest.
+fn direct_row(row: &[u8], of: &[u64], seen: &mut [usize; 12]) -> Result<(), String> {
+    let (is, was) = (proved::calls(row)?, answers(row));
+    for record in was.chunks(3) {
+        seen[usize::from(record[0])] += 1;
     }
-    for (bytes, length, answer) in wanted {
-        let mut lent = vec![0x5A; length];
-        let number = proved::calls(policy, bytes, &mut lent);
-        if number / 65_536 != answer || lent.iter().any(|&byte| byte != 0x5A) {
-            return Err(format!("{number} with {length} bytes lent, not {answer}"));
-        }
+    if is == was {
+        return Ok(());
     }
-    Ok(())
+    let differs = |list: &Calls| proved::calls(&list.bytes()) != Ok(answers(&list.bytes()));
+    let Some(&seed) = of.iter().find(|&&seed| differs(&calls(seed))) else {
+        let (first, last) = (of.first(), of.last());
+        return Err(format!(
+            "direct calls, seeds {first:?} to {last:?}: only all together"
+        ));
+    };
+    let bytes = calls(seed).shrink(differs).bytes();
+    let (is, was) = (proved::calls(&bytes)?, answers(&bytes));
+    let what = format!("{is:?}, expected {was:?}");
+    Err(said("direct calls", seed, &what, &bytes))
 }
 
 /// Three byte strings of this seed through the reader: a good sheet, a damaged one, and noise.

@@ -1,5 +1,5 @@
-//! calls.rs: lists of direct calls from a seed, right and wrong ones, in the bytes that `vachodien_calls` takes, and the
-//! answers of the independent engine to them.
+//! calls.rs: lists of direct calls from a seed, right and wrong ones, in the bytes that the program `direct` takes, and
+//! the answers of the independent engine to them.
 
 use independent::engine::Token;
 use independent::generate::generate;
@@ -66,9 +66,11 @@ fn wrong(random: &mut Random, number: u8, body: &[u8]) -> Call {
 }
 
 impl Calls {
-    /// Number, body length, body, one call behind the other.
+    /// Policy, how many calls in two bytes, then for each its number, body length and body.
     pub fn bytes(&self) -> Vec<u8> {
-        let mut bytes = Vec::new();
+        let count = u16::try_from(self.calls.len()).expect("few enough for two bytes");
+        let mut bytes = vec![self.policy];
+        bytes.extend(count.to_be_bytes());
         for call in &self.calls {
             bytes.push(call.number);
             bytes.push(call.body.len() as u8);
@@ -77,16 +79,46 @@ impl Calls {
         bytes
     }
 
-    /// Three bytes a call: the answer, and the value in two.
-    pub fn answers(&self) -> Vec<u8> {
+    /// Leaves out calls, as long as the list still `differs`.
+    pub fn shrink(mut self, differs: impl Fn(&Calls) -> bool) -> Calls {
+        let mut step = self.calls.len().max(1);
+        while step >= 1 {
+            let mut at = 0;
+            while at < self.calls.len() {
+                let mut shorter = self.clone();
+                shorter.calls.drain(at..(at + step).min(self.calls.len()));
+                if differs(&shorter) {
+                    self = shorter;
+                } else {
+                    at += step;
+                }
+            }
+            step /= 2;
+        }
+        self
+    }
+}
+
+/// What the independent engine answers to a row of such lists, three bytes a call: the answer, and the value in two. A row that is
+/// cut off ends with its last whole call.
+pub fn answers(row: &[u8]) -> Vec<u8> {
+    let mut answers = Vec::new();
+    let mut rest = row;
+    while let [policy, high, low, calls @ ..] = rest {
+        rest = calls;
         let mut token = Token::new();
-        let mut answers = Vec::new();
-        for call in &self.calls {
-            let answer = token.direct_call(self.policy, call.number, &call.body);
-            let (number, value) = number_and_value(answer);
-            answers.push(number);
+        for _ in 0..u16::from_be_bytes([*high, *low]) {
+            let [number, length, behind @ ..] = rest else {
+                return answers;
+            };
+            let Some((body, behind)) = behind.split_at_checked(usize::from(*length)) else {
+                return answers;
+            };
+            rest = behind;
+            let (answer, value) = number_and_value(token.direct_call(*policy, *number, body));
+            answers.push(answer);
             answers.extend(value.to_be_bytes());
         }
-        answers
     }
+    answers
 }

@@ -1,9 +1,10 @@
 //! The proved library from Rust: the functions of its static archive as safe functions on slices. Each call is pure but for
-//! the lent buffer: nothing is allocated, no state is kept, so any two calls can run at once.
+//! the lent buffer: nothing is allocated, no state is kept, so any two calls can run at once. The direct call is reached through
+//! the program `direct` (calls.rs).
 
 mod calls;
 
-pub use calls::calls;
+pub use calls::{calls, LONGEST_CALLS};
 
 /// The archive that is linked, for tests that link it into C programs.
 pub const ARCHIVE: &str = env!("VACHODIEN_ARCHIVE_FILE");

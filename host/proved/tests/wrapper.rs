@@ -1,6 +1,6 @@
 //! The safe functions on exercise A of document 01 and on its neighbours.
 
-use proved::{check, report, report_of, write, Reply};
+use proved::{calls, check, report, report_of, write, Reply};
 
 const SHEET: [u8; 22] = [
     0, 0, 4, 1, 0, 15, 1, 0, 16, 2, 0, 17, 5, 0, 19, 0x19, 0x10, 0, 1, 0, 0, 2,
@@ -50,4 +50,13 @@ fn numbers_taken_apart() {
     assert_eq!(Reply::from_number(851_968), Some(Reply::TooShort));
     assert_eq!(Reply::from_number(851_969), None);
     assert_eq!(Reply::from_number(65_536), None);
+}
+
+/// GENERATE 25, GENERATE 16, WRAP 0 1, DECRYPT 0 2 by direct calls, under the policies 0 and 3.
+#[test]
+fn exercise_a_by_direct_calls() {
+    let four = [1, 1, 25, 1, 1, 16, 2, 2, 0, 1, 5, 3, 0, 0, 2];
+    let row = [&[0, 0, 4][..], &four, &[3, 0, 4], &four].concat();
+    let wanted = [&REPORT[4..16], &[1, 0, 0].repeat(4)].concat();
+    assert_eq!(calls(&row), Ok(wanted));
 }

@@ -1,0 +1,2 @@
+-- Why the output's buffer is never too short.
+pub mod Progress

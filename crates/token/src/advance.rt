@@ -171,6 +171,7 @@ pub fn advance(token: Token, policy: u8, sheet: &[u8], n: u16, records: &mut [u8
     let mut hands = token.hands;
     let mut i: u16 = 0;
     while i < n {
+        // What the command names and sees, read into small values.
         let command = command_in(sheet, i);
         let names = names_of(command);
         let a = hands.slots[names.a.0 as usize];
@@ -186,9 +187,11 @@ pub fn advance(token: Token, policy: u8, sheet: &[u8], n: u16, records: &mut [u8
         let live = hands.live;
         let terms = table.terms;
         let view = seen(names, live, a, b, t, u, payload, outer, inner, equal, terms);
+        // What it comes to.
         let decision = decide(policy, command, view);
         put_record(records, i, decision.answer, decision.value);
         i += 1;
+        // The change: a slot and an entry, stored back as they were read where it changes none.
         let change = decision.change;
         let hand = slot_put(change, live, names.a, a, terms, table.keys);
         let slot = hand.slot;
@@ -209,6 +212,7 @@ pub fn advance(token: Token, policy: u8, sheet: &[u8], n: u16, records: &mut [u8
             table = follow(table, &links.newest, &links.older, p, key_of(known));
             continue;
         };
+        // A new seal goes to the front of its two chains.
         let code = code(k.0, p.0);
         let at = terms as usize;
         let over = k.0 as usize;

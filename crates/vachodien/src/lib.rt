@@ -48,7 +48,7 @@ pub extern "C" fn vachodien_check(sheet: &[u8]) -> u32
     let checked = check(sheet);
     match checked {
         Checked::Good(policy, n) => n as u32,
-        Checked::Malformed(place) => 786432 + place as u32,
+        Checked::Malformed(fault) => 786432 + fault as u32,
     }
 }
 

@@ -66,3 +66,9 @@ module _ {policy n : ℕ} {handed before after : List ℕ} {r : Written}
   pub short-written : r ≡ NoRoom → SheetWritten policy n handed before after 851968
   unfolding written-number
   short-written e = written 851968 (rw e thirteen)
+
+-- two results of the writer's call are equal
+pub written-unique : {policy n : ℕ} {handed before a b : List ℕ} {r r' : ℕ} → SheetWritten policy n handed before a r
+    → SheetWritten policy n handed before b r'
+    → (r ≡ r') × (a ≡ b)
+written-unique p q = (p .number ∙ sym (q .number), p .buffer ∙ sym (q .buffer))

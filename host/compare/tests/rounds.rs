@@ -55,16 +55,19 @@ fn input_in_small_pieces() {
     }
 }
 
-/// An input that can't be read is no sheet: nothing may be printed but what an empty one gets. The program has to end by itself.
+/// An input that can't be read is no sheet, so nothing is printed; an empty one is a sheet of no bytes. The program has to end by
+/// itself.
 #[test]
 fn input_that_is_closed_or_fails() {
     let program = program();
     for line in [r#"exec "$0" <&-"#, r#"exec "$0" </"#] {
         let output = by_shell(&program, line).output().expect("it runs");
         assert!(output.status.code().is_some(), "{:?}", output.status);
-        let text = String::from_utf8_lossy(&output.stdout).into_owned();
-        assert!(["", "refused 12 place 0\n"].contains(&&text[..]), "{text}");
+        assert_eq!(String::from_utf8_lossy(&output.stdout), "");
     }
+    let mut empty = Command::new(&program);
+    let output = empty.stdin(Stdio::null()).output().expect("it runs");
+    assert_eq!(String::from_utf8_lossy(&output.stdout), "refused 12 place 0\n");
 }
 
 #[test]

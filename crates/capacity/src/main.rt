@@ -1,7 +1,7 @@
 // Runs the two exercises of document 01 that come to its limits, through the direct call under the plain policy, and prints a line for
 // each call: command number, answer, value. First 257 times GENERATE; then from a fresh token OWN KEY, OWN DATA, SEAL 0 1, 1,021 times
 // OWN DATA, one more, and SEAL 0 1 again.
-ghost use Rattle.token.specs.Direct.{Reached};
+ghost use Rattle.running.specs.Direct.{Reached};
 use libc::STDOUT_FILENO;
 use token::Token;
 
@@ -22,7 +22,7 @@ fn repeat(token: Token, times: u16, number: u8, body: &[u8]) -> Token
     let mut now = token;
     let mut i: u16 = 0;
     while i < times {
-        let called = token::call(now, 0, number, body);
+        let called = running::call(now, 0, number, body);
         say(number, called.answer, called.value);
         now = called.token;
         i += 1;
@@ -34,7 +34,7 @@ fn repeat(token: Token, times: u16, number: u8, body: &[u8]) -> Token
 fn begin() -> Token
     ensures { λ r. ⌜ Reached r 0 ⌝ }
 {
-    token::known::fresh()
+    token::fresh()
 }
 
 fn main() {

@@ -14,19 +14,20 @@ use Rattle.rules.specs.Templates.{by-generate, by-unwrap}
 use Rattle.deciding.specs.declared.Change.{Change}
 use Rattle.deciding.specs.declared.Change.the-variants.{Bind, NewKey, NewSeal}
 use Rattle.deciding.specs.declared.Decision.{Decision}
-use Rattle.deciding.specs.declared.Entry.{Entry}
+use Rattle.shapes.specs.declared.Entry.{Entry}
 use Rattle.deciding.specs.declared.Equal.{Equal}
-use Rattle.deciding.specs.declared.Free.{Free}
-use Rattle.deciding.specs.declared.Free.the-variants.{At, Full}
+use Rattle.shapes.specs.declared.Free.{Free}
+use Rattle.shapes.specs.declared.Free.the-variants.{At, Full}
 use Rattle.deciding.specs.declared.Handle.{Handle}
 use Rattle.deciding.specs.declared.Handle.the-variants.{Live, Dead}
-use Rattle.deciding.specs.declared.HandleNo.{HandleNo}
-use Rattle.deciding.specs.declared.KeyNo.{KeyNo}
+use Rattle.shapes.specs.declared.HandleNo.{HandleNo}
+use Rattle.shapes.specs.declared.KeyNo.{KeyNo}
 use Rattle.deciding.specs.declared.Lookup.{Lookup}
 use Rattle.deciding.specs.declared.Lookup.the-variants.{There, Nothing}
-use Rattle.deciding.specs.declared.Slot.{Slot}
-use Rattle.deciding.specs.declared.TermNo.{TermNo}
-use Rattle.deciding.specs.Decisions.{decision, refusedWith, doneWith, grantedBy, isKeyEntry, keyOf, payloadNo, sealedUnder}
+use Rattle.shapes.specs.declared.Slot.{Slot}
+use Rattle.shapes.specs.declared.TermNo.{TermNo}
+use Rattle.shapes.specs.Entries.{isKeyEntry, keyOf, payloadNo, sealedUnder}
+use Rattle.deciding.specs.Decisions.{decision, refusedWith, doneWith, grantedBy}
 use Rattle.deciding.specs.Decisions.{is-new, sealNumber, sealChange, learning, decidedGenerate, decidedWrap, decidedUnwrap}
 use Rattle.deciding.specs.Decisions.{decidedEncrypt, decidedDecrypt, decidedSeal}
 use Rattle.deciding.proofs.TableRules.{bars-keys}

@@ -1,4 +1,3 @@
--- The constant tables' rules, the answers of each command, and the reading of a command.
+-- The constant tables' rules, and the answers of each command.
 pub mod TableRules
 pub mod Answers
-pub mod Parsing

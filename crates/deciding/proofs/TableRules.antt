@@ -1,5 +1,5 @@
--- The rules of the code's constant tables: flags needed and lengths, by one test over the whole table, which antt computes; flag
--- bytes granted, row by row. Assumes nothing.
+-- The rules of the code's constant tables: flags needed, by the one law on tables; flag bytes granted, row by row. Rests on that law
+-- (shapes Tables).
 use mathlib.Core.Path.{_≡_, refl, sym}
 use mathlib.Core.Bool.{Bool, true, false, _&&_, _||_, or-false, or-self, false≢true}
 use mathlib.Core.List.{List, [], _∷_}
@@ -14,29 +14,9 @@ use Rattle.rules.specs.Flags.{value}
 use Rattle.rules.specs.Templates.{plain, stp+, Making, by-generate, by-unwrap, templates, grants}
 use Rattle.rules.specs.Refusals.{no-keys-encrypted}
 use Rattle.sheets.specs.Reading.{read-policy}
-use Rattle.sheets.specs.Faults.{body-length, body-lengths}
+use Rattle.shapes.proofs.Tables.{followed}
 use Rattle.deciding.specs.Tables.{makingOf, neededBy}
 use Rattle.deciding.specs.Decisions.{grantedBy}
-
--- the test: each entry is the rule's number at its place
-abbrev follows : (rule : ℕ → ℕ) → List ℕ → Bool
-follows rule [] = true
-follows rule (x ∷ table) = eqb x (rule 0) && follows (λ i. rule (suc i)) table
-
-and-left : (a b : Bool) → (a && b) ≡ true → a ≡ true
-and-left true b e = refl
-and-left false b e = e
-
-and-right : (a b : Bool) → (a && b) ≡ true → b ≡ true
-and-right true b e = e
-and-right false b e = absurd (false≢true e)
-
--- a table that passes the test holds the rule's number at each of its places
-followed : (rule : ℕ → ℕ) (table : List ℕ) → follows rule table ≡ true → (k : ℕ) → k < length table → getD table k 0 ≡ rule k
-followed rule [] e k h = absurd (omega arith)
-followed rule (x ∷ table) e zero h = eqb-true x (rule 0) (and-left _ _ e)
-followed rule (x ∷ table) e (suc k) h =
-    followed (λ i. rule (suc i)) table (and-right (eqb x (rule 0)) _ e) k (omega arith)
 
 -- the flag values needed, by row: W, U, E, D
 abbrev pub needed : List ℕ
@@ -53,15 +33,6 @@ needed-positive zero = omega arith
 needed-positive (suc zero) = omega arith
 needed-positive (suc (suc zero)) = omega arith
 needed-positive (suc (suc (suc n))) = omega arith
-
--- the lengths of bodies, by command number from 0
-abbrev pub lengths : List ℕ
-lengths = 0 ∷ 1 ∷ 2 ∷ 4 ∷ 3 ∷ 3 ∷ 1 ∷ 1 ∷ 0 ∷ 0 ∷ 4 ∷ []
-
--- each is the length of that command's body
-pub length-is : (number : ℕ) → number < 11 → getD lengths number 0 ≡ body-length number
-unfolding body-length body-lengths
-length-is = followed body-length lengths refl
 
 -- the flag bytes granted, four a row
 abbrev pub granted-rows : List ℕ

@@ -10,28 +10,28 @@ use Rattle.rules.specs.Templates.{Policy, plain, stp, stp+, Making, by-generate
 use Rattle.rules.specs.Refusals.{Refusal, _if_, first, no-keys-encrypted}
 use Rattle.rules.specs.State.{most-terms}
 use Rattle.sheets.specs.Reading.{read-policy}
-use Rattle.deciding.specs.declared.KeyNo.{KeyNo}
-use Rattle.deciding.specs.declared.TermNo.{TermNo}
-use Rattle.deciding.specs.declared.HandleNo.{HandleNo}
-use Rattle.deciding.specs.declared.Term.the-variants.{Data, Key, Seal}
-use Rattle.deciding.specs.declared.Term.{Term as Kind}
-use Rattle.deciding.specs.declared.Entry.{Entry}
-use Rattle.deciding.specs.declared.Slot.{Slot}
+use Rattle.shapes.specs.declared.KeyNo.{KeyNo}
+use Rattle.shapes.specs.declared.TermNo.{TermNo}
+use Rattle.shapes.specs.declared.HandleNo.{HandleNo}
+use Rattle.shapes.specs.declared.Term.the-variants.{Data, Key, Seal}
+use Rattle.shapes.specs.declared.Term.{Term as Kind}
+use Rattle.shapes.specs.declared.Entry.{Entry}
+use Rattle.shapes.specs.declared.Slot.{Slot}
 use Rattle.deciding.specs.declared.Handle.{Handle}
 use Rattle.deciding.specs.declared.Handle.the-variants.{Live, Dead}
 use Rattle.deciding.specs.declared.Lookup.{Lookup}
 use Rattle.deciding.specs.declared.Lookup.the-variants.{There, Nothing as NoTerm}
-use Rattle.deciding.specs.declared.Free.{Free}
-use Rattle.deciding.specs.declared.Free.the-variants.{At as FreeAt, Full}
+use Rattle.shapes.specs.declared.Free.{Free}
+use Rattle.shapes.specs.declared.Free.the-variants.{At as FreeAt, Full}
 use Rattle.deciding.specs.declared.Equal.{Equal}
 use Rattle.deciding.specs.declared.Equal.the-variants.{At as EqualAt, New}
 use Rattle.deciding.specs.declared.View.{View}
 use Rattle.deciding.specs.declared.Change.{Change}
 use Rattle.deciding.specs.declared.Change.the-variants.{Nothing, Bind, Release, NewKey, OwnKey as MakeOwnKey, OwnData as MakeOwnData, NewSeal, Know}
 use Rattle.deciding.specs.declared.Decision.{Decision}
-use Rattle.deciding.specs.declared.Command.{Command}
-use Rattle.deciding.specs.declared.Command.the-variants.{Generate, Wrap, Unwrap, Encrypt, Decrypt, Corrupt, Destroy, OwnKey, OwnData, Seal as SealTerm}
-use Rattle.deciding.specs.Blanks.{blank-entry, blank-slot}
+use Rattle.shapes.specs.declared.Command.{Command}
+use Rattle.shapes.specs.declared.Command.the-variants.{Generate, Wrap, Unwrap, Encrypt, Decrypt, Corrupt, Destroy, OwnKey, OwnData, Seal as SealTerm}
+use Rattle.shapes.specs.Entries.{blank-entry, blank-slot, isKeyEntry, keyOf, sealedUnder, payloadNo}
 
 -- a refusal has value 0 and changes nothing
 abbrev pub refusedWith : ℕ → Decision
@@ -73,30 +73,6 @@ free-handle Full = record { 0 = 0 }
 abbrev pub is-new : Equal → Bool
 is-new (EqualAt t) = false
 is-new New = true
-
--- the kinds of entry
-abbrev pub isKey : Kind → Bool
-isKey Data = false
-isKey (Key k) = true
-isKey (Seal k p) = false
-
-abbrev pub isKeyEntry : Entry → Bool
-isKeyEntry e = isKey (e .term)
-
-abbrev pub keyOf : Kind → KeyNo
-keyOf Data = record { 0 = 0 }
-keyOf (Key k) = k
-keyOf (Seal k p) = record { 0 = 0 }
-
-abbrev pub sealedUnder : KeyNo → Kind → Bool
-sealedUnder k Data = false
-sealedUnder k (Key j) = false
-sealedUnder k (Seal j p) = eqb (j .0) (k .0)
-
-abbrev pub payloadNo : Kind → TermNo
-payloadNo Data = record { 0 = 0 }
-payloadNo (Key k) = record { 0 = 0 }
-payloadNo (Seal k p) = p
 
 -- a number of the policy table
 abbrev pub grantedBy : (policy : ℕ) → Making → ℕ → Bool

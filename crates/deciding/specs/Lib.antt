@@ -1,5 +1,3 @@
--- The code's own words for commands, blanks, the constant tables, and what is decided.
-pub mod Commands
-pub mod Blanks
+-- The constant tables, and what is decided on what a command sees.
 pub mod Tables
 pub mod Decisions

@@ -7,30 +7,33 @@ ghost use Prim.Native.Nat.{_<_};
 ghost use lib.Dec.{leb};
 ghost use Rattle.rules.specs.Refusals.{_if_, first};
 ghost use Rattle.rules.specs.State.{most-terms};
-ghost use Rattle.deciding.specs.Decisions.{decision, refusedWith, doneWith, isKeyEntry, keyOf, payloadNo, sealedUnder};
+ghost use Rattle.shapes.specs.Entries.{isKeyEntry, sealedUnder};
+ghost use Rattle.deciding.specs.Decisions.{decision, refusedWith, doneWith};
 ghost use Rattle.deciding.specs.Decisions.{is-new, sealNumber, sealChange, learning};
 ghost use Rattle.deciding.specs.Decisions.{decidedGenerate, decidedWrap, decidedUnwrap, decidedEncrypt, decidedDecrypt};
 ghost use Rattle.deciding.specs.Decisions.{decidedCorrupt, decidedDestroy, decidedOwnKey, decidedOwnData, decidedSeal, decided};
 ghost use Rattle.deciding.specs.declared.Handle.the-variants.{Live};
 ghost use Rattle.deciding.specs.declared.Lookup.the-variants.{There};
 use crate::Change;
-use crate::Command;
 use crate::Decision;
-use crate::Entry;
 use crate::Equal;
-use crate::Free;
 use crate::Handle;
-use crate::HandleNo;
-use crate::KeyNo;
 use crate::Lookup;
-use crate::Slot;
-use crate::Term;
-use crate::TermNo;
 use crate::View;
 use crate::tables::bars_wrap;
 use crate::tables::both;
 use crate::tables::granted;
 use crate::tables::lacks;
+use shapes::Command;
+use shapes::Entry;
+use shapes::Free;
+use shapes::HandleNo;
+use shapes::KeyNo;
+use shapes::Slot;
+use shapes::Term;
+use shapes::TermNo;
+use shapes::entries::key_of;
+use shapes::entries::payload_no;
 
 fn refused(answer: u8) -> Decision
     ensures { λ r. ⌜ r ≡ refusedWith answer ⌝ }
@@ -60,28 +63,6 @@ fn is_key(entry: Entry) -> bool
         Term::Data => false,
         Term::Key(k) => true,
         Term::Seal(k, p) => false,
-    }
-}
-
-pub fn key_of(entry: Entry) -> KeyNo
-    ensures { λ r. ⌜ r ≡ keyOf (entry .term) ⌝ }
-{
-    let term = entry.term;
-    match term {
-        Term::Data => KeyNo(0),
-        Term::Key(k) => k,
-        Term::Seal(k, p) => KeyNo(0),
-    }
-}
-
-pub fn payload_no(entry: Entry) -> TermNo
-    ensures { λ r. ⌜ r ≡ payloadNo (entry .term) ⌝ }
-{
-    let term = entry.term;
-    match term {
-        Term::Data => TermNo(0),
-        Term::Key(k) => TermNo(0),
-        Term::Seal(k, p) => p,
     }
 }
 
@@ -325,26 +306,50 @@ fn seal(k: Lookup, t: Lookup, number: TermNo, equal: Equal, terms: u16) -> Decis
 pub fn decide(policy: u8, command: Command, view: View) -> Decision
     ensures { λ r. ⌜ r ≡ decided policy command view ⌝ }
 {
-    let a = view.a;
-    let b = view.b;
-    let t = view.t;
-    let u = view.u;
-    let payload = view.payload;
-    let outer = view.outer;
-    let inner = view.inner;
-    let equal = view.equal;
-    let free = view.free;
     let terms = view.terms;
     match command {
-        Command::Generate(flags) => generate(policy, flags, free, terms),
-        Command::Wrap(g, h) => wrap(a, b, outer, inner, equal, terms),
-        Command::Unwrap(h, n, flags) => unwrap(policy, a, t, flags, payload, free),
-        Command::Encrypt(h, n) => encrypt(policy, a, t, n, equal, terms),
-        Command::Decrypt(h, n) => decrypt(a, t, payload),
-        Command::Corrupt(h) => corrupt(a, outer),
-        Command::Destroy(h) => destroy(a, h),
+        Command::Generate(flags) => {
+            let free = view.free;
+            generate(policy, flags, free, terms)
+        }
+        Command::Wrap(g, h) => {
+            let a = view.a;
+            let b = view.b;
+            let equal = view.equal;
+            wrap(a, b, view.outer, view.inner, equal, terms)
+        }
+        Command::Unwrap(h, n, flags) => {
+            let a = view.a;
+            let t = view.t;
+            let free = view.free;
+            unwrap(policy, a, t, flags, view.payload, free)
+        }
+        Command::Encrypt(h, n) => {
+            let a = view.a;
+            let t = view.t;
+            let equal = view.equal;
+            encrypt(policy, a, t, n, equal, terms)
+        }
+        Command::Decrypt(h, n) => {
+            let a = view.a;
+            let t = view.t;
+            decrypt(a, t, view.payload)
+        }
+        Command::Corrupt(h) => {
+            let a = view.a;
+            corrupt(a, view.outer)
+        }
+        Command::Destroy(h) => {
+            let a = view.a;
+            destroy(a, h)
+        }
         Command::OwnKey => own_key(terms),
         Command::OwnData => own_data(terms),
-        Command::Seal(k, n) => seal(t, u, n, equal, terms),
+        Command::Seal(k, n) => {
+            let t = view.t;
+            let u = view.u;
+            let equal = view.equal;
+            seal(t, u, n, equal, terms)
+        }
     }
 }

@@ -1,65 +1,14 @@
-// What each command comes to, decided on small values: the numbers, terms and commands, what a command sees of a token, and the
-// answer, the value and the change that follow.
+// What each command comes to, decided on small values: what a command sees of a token, and the answer, the value and the change that
+// follow.
 pub mod decide;
-pub mod parse;
 mod tables;
 
-// Handle numbers, key numbers and term numbers are three separate counts.
-pub struct HandleNo(pub u8);
-
-pub struct KeyNo(pub u16);
-
-pub struct TermNo(pub u16);
-
-// A term: a data item, a key, or a seal of a term under a key.
-pub enum Term {
-    Data,
-    Key(KeyNo),
-    Seal(KeyNo, TermNo),
-}
-
-// What is marked of a term: the caller can work it out; it is the caller's own.
-pub struct Marks {
-    pub held: bool,
-    pub own: bool,
-}
-
-pub struct Entry {
-    pub term: Term,
-    pub marks: Marks,
-}
-
-// What a live handle stands for: a key, that key's term, and the flag byte.
-pub struct Slot {
-    pub key: KeyNo,
-    pub term: TermNo,
-    pub flags: u8,
-}
-
-pub enum Command {
-    Generate(u8),
-    Wrap(HandleNo, HandleNo),
-    Unwrap(HandleNo, TermNo, u8),
-    Encrypt(HandleNo, TermNo),
-    Decrypt(HandleNo, TermNo),
-    Corrupt(HandleNo),
-    Destroy(HandleNo),
-    OwnKey,
-    OwnData,
-    Seal(TermNo, TermNo),
-}
-
-// An entry of a sheet: the command number that it names, and the command that it states.
-pub struct SheetEntry {
-    pub number: u8,
-    pub command: Command,
-}
-
-// A command number and a body, read.
-pub enum Parsed {
-    Known(Command),
-    Unknown,
-}
+use shapes::Entry;
+use shapes::Free;
+use shapes::HandleNo;
+use shapes::KeyNo;
+use shapes::Slot;
+use shapes::TermNo;
 
 // Looking up a handle or a term.
 pub enum Handle {
@@ -72,12 +21,7 @@ pub enum Lookup {
     Nothing,
 }
 
-// A number that was looked for: the free handle, the equal seal.
-pub enum Free {
-    At(HandleNo),
-    Full,
-}
-
+// Looking for the equal of a seal.
 pub enum Equal {
     At(TermNo),
     New,

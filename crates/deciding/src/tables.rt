@@ -1,10 +1,8 @@
-// The constant tables of document 01: the flag bytes that each policy grants, the flag that a command needs on its first handle,
-// and the length of its body.
+// The constant tables of document 01: the flag bytes that each policy grants, and the flag that a command needs on its first handle.
 ghost use mathlib.Core.Path.{_≡_};
 ghost use mathlib.Core.Bool.{not, _&&_, _||_};
 ghost use Prim.Native.Nat.{_<_, _+_, _/_, _%_};
 ghost use Rattle.rules.specs.Flags.{W, X, N, T, has};
-ghost use Rattle.sheets.specs.Faults.{body-length};
 ghost use Rattle.deciding.specs.Decisions.{grantedBy};
 ghost use Rattle.deciding.specs.Tables.{makingOf, neededBy, hasBit};
 
@@ -30,9 +28,6 @@ const GRANTED: [u8; 16] = [
 
 // By command number, from WRAP, 2: W, U, E, D.
 const NEEDED: [u8; 4] = [1, 2, 4, 8];
-
-// By command number, from 0, which is no command.
-const LENGTHS: [usize; 11] = [0, 1, 2, 4, 3, 3, 1, 1, 0, 0, 4];
 
 // Two tests as one value: both are asked, and the code does not part.
 pub fn both(a: bool, b: bool) -> bool
@@ -99,12 +94,4 @@ pub fn bars_wrap(outer: u8, inner: u8) -> bool
 {
     let untrusted = both(has_bit(inner, 32), !has_bit(outer, 64));
     either(either(lacks(0, outer), !has_bit(inner, 16)), untrusted)
-}
-
-// The length of a command's body, by command number.
-pub fn length_of(number: u8) -> usize
-    requires { ⌜ number < 11 ⌝ }
-    ensures { λ r. ⌜ r ≡ body-length number ⌝ }
-{
-    LENGTHS[number as usize]
 }

@@ -4,9 +4,9 @@ use native.Mathlib.Omega.{arith}
 use Rattle.rules.specs.Templates.{plain, stp, stp+}
 use Rattle.rules.specs.State.{fresh}
 use Rattle.sheets.specs.Sheets.{policy-number}
-use Rattle.token.specs.Direct.{Reached}
+use Rattle.running.specs.Direct.{Reached}
 use Rattle.token.specs.Known.{blank-token}
-use Rattle.token.proofs.Going.{comes-fresh, reached-fresh}
+use Rattle.running.proofs.Going.{comes-fresh, reached-fresh}
 
 pub reached-begun : (policy : ℕ) → Reached blank-token policy
 unfolding policy-number

@@ -6,7 +6,7 @@ ghost use Prim.Native.Nat.{_+_, _≤_};
 ghost use mathlib.Core.Path.{_≡_};
 ghost use lib.ListN.{length};
 ghost use Rattle.io.specs.Counts.{Counts};
-ghost use Rattle.token.specs.Direct.{Reached};
+ghost use Rattle.running.specs.Direct.{Reached};
 ghost use Rattle.direct.specs.Progress.{Room, Underway};
 use libc::STDIN_FILENO;
 use libc::STDOUT_FILENO;
@@ -22,7 +22,7 @@ struct Progress {
 fn begin(policy: u8) -> Token
     ensures { λ r. ⌜ Reached r policy ⌝ }
 {
-    token::known::fresh()
+    token::fresh()
 }
 
 // A number of two bytes, the high one first.
@@ -67,7 +67,7 @@ fn sequence(input: &[u8], start: Progress, policy: u8, count: u16, out: &mut [u8
                 written,
             };
         }
-        let called = token::call(now, policy, number, &input[body..end]);
+        let called = running::call(now, policy, number, &input[body..end]);
         put(out, written, called.answer, called.value);
         now = called.token;
         read = end;

@@ -25,8 +25,8 @@ use Rattle.sheets.proofs.Faultless.{EntryFaultless, Faultless, none-faultless, 
 use Rattle.sheets.proofs.Walks.{command-at}
 use Rattle.sheets.proofs.Good.{sheet-begins, sheet-read, sheet-good}
 use Rattle.sheets.proofs.Sizes.{sheet-bytes-are-bytes}
-use Rattle.deciding.specs.Commands.{commandOf, parsedIf, no-command, parsed}
-use Rattle.deciding.specs.declared.Parsed.the-variants.{Known}
+use Rattle.shapes.specs.Commands.{commandOf, parsedIf, no-command, parsed}
+use Rattle.shapes.specs.declared.Parsed.the-variants.{Known}
 use Rattle.reader.specs.declared.Checked.the-variants.{Good, Malformed}
 use Rattle.reader.specs.declared.Read.the-variants.{Entry}
 use Rattle.reader.specs.Reader.{checked-as, checked, has-body, body-at, read-as, entry-at}

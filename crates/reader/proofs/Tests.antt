@@ -12,8 +12,8 @@ use Rattle.rules.proofs.Named.{both}
 use Rattle.sheets.specs.Bytes.{byte-at, two-at}
 use Rattle.sheets.specs.Sheets.{bodies-begin}
 use Rattle.sheets.specs.Faults.{known-number, body-length, count, entry-number, entry-offset, header-fault}
-use Rattle.deciding.specs.Commands.{parsed}
-use Rattle.deciding.specs.declared.Parsed.{Parsed}
+use Rattle.shapes.specs.Commands.{parsed}
+use Rattle.shapes.specs.declared.Parsed.{Parsed}
 use Rattle.reader.specs.declared.Read.the-variants.{NoEntry}
 use Rattle.reader.specs.Reader.{has-entry, has-body, body-at, read-as, entry-at}
 

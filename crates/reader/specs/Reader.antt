@@ -11,9 +11,9 @@ use Rattle.sheets.specs.Bytes.{byte-at}
 use Rattle.sheets.specs.Sheets.{bodies-begin}
 use Rattle.sheets.specs.Faults.{body-length, count, entry-number, entry-offset, first-fault}
 use Rattle.sheets.specs.Calls.{answer-number}
-use Rattle.deciding.specs.Commands.{parsed}
-use Rattle.deciding.specs.declared.Parsed.{Parsed}
-use Rattle.deciding.specs.declared.Parsed.the-variants.{Known, Unknown}
+use Rattle.shapes.specs.Commands.{parsed}
+use Rattle.shapes.specs.declared.Parsed.{Parsed}
+use Rattle.shapes.specs.declared.Parsed.the-variants.{Known, Unknown}
 use Rattle.reader.specs.declared.Checked.{Checked}
 use Rattle.reader.specs.declared.Checked.the-variants.{Good, Malformed}
 use Rattle.reader.specs.declared.Read.{Read}

@@ -9,10 +9,10 @@ use crate::table::header_fault;
 use crate::table::number_at;
 use crate::table::offset_at;
 use crate::table::two_at;
-use deciding::Parsed;
-use deciding::SheetEntry;
-use deciding::parse::body_length;
-use deciding::parse::parse;
+use shapes::Parsed;
+use shapes::SheetEntry;
+use shapes::parse::body_length;
+use shapes::parse::parse;
 
 pub mod handing;
 mod table;

@@ -8,8 +8,8 @@ ghost use Rattle.sheets.specs.Bytes.{two-at};
 ghost use Rattle.sheets.specs.Sheets.{bodies-begin};
 ghost use Rattle.sheets.specs.Faults.{known-number, body-length, entry-number, entry-offset, header-fault};
 ghost use Rattle.reader.specs.Reader.{has-body};
-use deciding::parse::body_length;
-use deciding::parse::known_number;
+use shapes::parse::body_length;
+use shapes::parse::known_number;
 
 // The two-byte number at a place, big-endian.
 pub fn two_at(bytes: &[u8], at: usize) -> u16

@@ -8,8 +8,8 @@ use mathlib.Core.List.{List, [], _∷_, _++_, append-assoc, append-nil}
 use lib.ListN.{length, getD, take}
 use lib.Seq.{take-suc, take-all}
 use Rattle.rules.specs.State.{most-terms}
-use Rattle.deciding.specs.declared.Entry.{Entry}
-use Rattle.deciding.specs.Decisions.{keyOf}
+use Rattle.shapes.specs.declared.Entry.{Entry}
+use Rattle.shapes.specs.Entries.{keyOf}
 use Rattle.token.specs.Shows.{blank-entry}
 use Rattle.token.specs.Known.{is-marked}
 use Rattle.text.specs.Text.{word, key-line}

@@ -10,10 +10,10 @@ use Rattle.terms.proofs.Lists.{bool-cases, at-in, below-at}
 use Rattle.rules.specs.State.{State, Origin, generated, own}
 use Rattle.rules.proofs.Named.{both}
 use Rattle.rules.proofs.Sound.{Sound}
-use Rattle.deciding.specs.declared.Entry.{Entry}
-use Rattle.deciding.specs.declared.Term.{Term as Kind}
-use Rattle.deciding.specs.declared.Term.the-variants.{Data, Key, Seal}
-use Rattle.deciding.specs.Decisions.{isKey, keyOf}
+use Rattle.shapes.specs.declared.Entry.{Entry}
+use Rattle.shapes.specs.declared.Term.{Term as Kind}
+use Rattle.shapes.specs.declared.Term.the-variants.{Data, Key, Seal}
+use Rattle.shapes.specs.Entries.{isKey, keyOf}
 use Rattle.token.specs.declared.Token.{Token}
 use Rattle.token.specs.Shows.{Shows, blank-entry, is-own, entry-of, entry-for}
 use Rattle.token.specs.Known.{marked-keys}

@@ -11,9 +11,9 @@ use Rattle.sheets.specs.Calls.{over}
 use Rattle.sheets.proofs.Faultless.{none-faultless}
 use Rattle.reader.specs.declared.Checked.the-variants.{Good, Malformed}
 use Rattle.reader.proofs.GoodEntries.{checked-good}
-use Rattle.token.specs.declared.Ran.{Ran}
-use Rattle.token.specs.Run.{RanSheet}
-use Rattle.token.proofs.RunTold.{fault-told, few-commands, has-run, policy-told, commands-counted, known-told}
+use Rattle.running.specs.declared.Ran.{Ran}
+use Rattle.running.specs.Run.{RanSheet}
+use Rattle.running.proofs.RunTold.{fault-told, few-commands, has-run, policy-told, commands-counted, known-told}
 use Rattle.text.specs.Text.{malformed-text, is-malformed}
 use Rattle.text.specs.Printing.{run-text}
 use Rattle.text.specs.Writing.{Printed, TextWritten}

@@ -5,7 +5,7 @@ use mathlib.Core.Path.{_≡_, refl, ap}
 use mathlib.Core.List.{List, [], _∷_, _++_}
 use lib.ListN.{length}
 use Rattle.sheets.specs.Reading.{read-policy}
-use Rattle.deciding.specs.declared.Entry.{Entry}
+use Rattle.shapes.specs.declared.Entry.{Entry}
 use Rattle.token.specs.Known.{marked-keys}
 use Rattle.text.specs.declared.Tally.{Tally as Counts}
 use Rattle.text.specs.Text.{word, digits, decimal, line, first-line, tally-line, known-line, malformed-text}

@@ -9,8 +9,8 @@ use Rattle.sheets.specs.Bytes.{byte-at, two-at}
 use Rattle.sheets.specs.Faults.{entry-number}
 use Rattle.sheets.specs.Reports.{Tally, count-one}
 use Rattle.sheets.specs.Reading.{read-policy}
-use Rattle.deciding.specs.declared.Entry.{Entry}
-use Rattle.deciding.specs.Decisions.{keyOf}
+use Rattle.shapes.specs.declared.Entry.{Entry}
+use Rattle.shapes.specs.Entries.{keyOf}
 use Rattle.token.specs.Known.{is-marked, marked-keys}
 use Rattle.text.specs.declared.Tally.{Tally as Counts}
 use Rattle.text.specs.Text.{word, command-name, first-line, command-line, tally-line, known-line, key-line}

@@ -8,9 +8,9 @@ ghost use Rattle.text.specs.Printing.{own-word, marked-line, marked-line
 ghost use Rattle.text.specs.Writing.{Wrote};
 use crate::append::write_bytes;
 use crate::append::write_number;
-use deciding::Entry;
-use deciding::Term;
-use deciding::decide::key_of;
+use shapes::Entry;
+use shapes::Term;
+use shapes::entries::key_of;
 use token::Table;
 
 // Is this the entry of a known key?

@@ -19,8 +19,8 @@ use lines::write_known;
 use lines::write_lines;
 use lines::write_tally;
 use reader::Checked;
+use running::run;
 use token::Table;
-use token::running::run;
 
 // How many commands were answered 0, and how many were not.
 pub struct Tally {

@@ -9,10 +9,10 @@ use native.Mathlib.Numerals.{add-one}
 use lib.ListN.{length, getD, drop, drop-of-length-le}
 use lib.Seq.{drop-cons}
 use Rattle.rules.specs.State.{most-terms}
-use Rattle.deciding.specs.declared.Entry.{Entry}
+use Rattle.shapes.specs.declared.Entry.{Entry}
 use Rattle.token.specs.declared.Origin.the-variants.{NoKey}
 use Rattle.token.specs.Shows.{blank-entry}
-use Rattle.deciding.specs.Decisions.{keyOf}
+use Rattle.shapes.specs.Entries.{keyOf}
 use Rattle.token.specs.Known.{is-marked, marked-keys, is-key-no, origin-of, origin-in}
 
 -- the known keys from entry i on, where that is a known key and where it is none

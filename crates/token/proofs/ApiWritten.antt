@@ -13,10 +13,10 @@ use Rattle.rules.specs.State.{most-terms}
 use Rattle.sheets.specs.Bytes.{two}
 use Rattle.sheets.specs.Reports.{keys-bytes}
 use Rattle.sheets.specs.Calls.{over}
-use Rattle.deciding.specs.declared.Entry.{Entry}
+use Rattle.shapes.specs.declared.Entry.{Entry}
 use Rattle.token.specs.declared.Listed.the-variants.{Keys, Short}
 use Rattle.token.specs.Shows.{blank-entry}
-use Rattle.deciding.specs.Decisions.{keyOf}
+use Rattle.shapes.specs.Entries.{keyOf}
 use Rattle.token.specs.Known.{is-marked, marked-keys, ListedInto}
 use Rattle.token.proofs.ApiKnown.{next-marked, next-other, none-left}
 

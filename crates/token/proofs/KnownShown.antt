@@ -23,11 +23,11 @@ use Rattle.rules.proofs.Judging.{covers, known-in-table}
 use Rattle.rules.proofs.KeyOrder.{InOrder}
 use Rattle.rules.proofs.Named.{both}
 use Rattle.token.specs.declared.Token.{Token}
-use Rattle.deciding.specs.declared.Entry.{Entry}
-use Rattle.deciding.specs.declared.Term.{Term as Kind}
-use Rattle.deciding.specs.declared.Term.the-variants.{Data, Key, Seal}
+use Rattle.shapes.specs.declared.Entry.{Entry}
+use Rattle.shapes.specs.declared.Term.{Term as Kind}
+use Rattle.shapes.specs.declared.Term.the-variants.{Data, Key, Seal}
 use Rattle.token.specs.Shows.{Shows, blank-entry, entry-of, entry-for}
-use Rattle.deciding.specs.Decisions.{isKey, keyOf}
+use Rattle.shapes.specs.Entries.{isKey, keyOf}
 use Rattle.token.specs.Known.{marked-keys}
 
 -- entry e is key k's, and held

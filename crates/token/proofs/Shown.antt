@@ -7,7 +7,7 @@ use mathlib.Core.List.{List, [], _∷_}
 use lib.ListN.{length, getD, replicate, length-replicate, getD-replicate}
 use lib.Seq.{ext-getD}
 use Rattle.rules.specs.State.{State, Now, dead, fresh, slot, is-live, most-handles, most-terms}
-use Rattle.deciding.specs.declared.Entry.{Entry}
+use Rattle.shapes.specs.declared.Entry.{Entry}
 use Rattle.token.specs.declared.Links.{Links}
 use Rattle.token.specs.declared.Hands.{Hands}
 use Rattle.token.specs.declared.Token.{Token}
@@ -16,7 +16,7 @@ use Rattle.token.specs.Known.{blank-token}
 use Rattle.token.specs.Shows.{Shows, ShowsLinks, ShowsHands, blank-entry, blank-slot, entry-for, entry-of, slot-for, code-of}
 use Rattle.token.specs.Shows.{bucket-chain}
 use Rattle.token.proofs.ChainsKept.{linked-unique, linked-blank}
-use Rattle.token.proofs.LiveWords.{words-unique, blank-words, blank-bit}
+use Rattle.handles.proofs.LiveWords.{words-unique, blank-words, blank-bit}
 
 -- two lists of one length that read alike below it are equal
 alike : {A : Type 0} (d : A) (n : ℕ) (a b : List A) → length a ≡ n → length b ≡ n → ((i : ℕ) → i < n → getD a i d ≡ getD b i d) →

@@ -13,16 +13,16 @@ use Rattle.terms.specs.Terms.{key}
 use Rattle.terms.proofs.Lists.{bool-cases, in-at, at-in}
 use Rattle.rules.specs.State.{State, count-live}
 use Rattle.rules.proofs.Sound.{Sound}
-use Rattle.deciding.specs.declared.Entry.{Entry}
-use Rattle.deciding.specs.declared.Term.{Term as Kind}
-use Rattle.deciding.specs.declared.Term.the-variants.{Data, Key, Seal}
+use Rattle.shapes.specs.declared.Entry.{Entry}
+use Rattle.shapes.specs.declared.Term.{Term as Kind}
+use Rattle.shapes.specs.declared.Term.the-variants.{Data, Key, Seal}
 use Rattle.token.specs.declared.Token.{Token}
 use Rattle.token.specs.declared.Origin.{Origin}
 use Rattle.token.specs.declared.Origin.the-variants.{NoKey}
-use Rattle.token.specs.Live.{count-in}
+use Rattle.handles.specs.Live.{count-in}
 use Rattle.token.specs.Shows.{Shows, blank-entry, is-own, entry-of, entry-for}
 use Rattle.token.specs.Known.{is-key-no, origin-of, origin-in}
-use Rattle.token.proofs.LiveWords.{count-shown}
+use Rattle.handles.proofs.LiveWords.{count-shown}
 use Rattle.token.proofs.KnownShown.{key-at, key-inside}
 
 -- a kind is key number k's, or it is not

@@ -9,9 +9,9 @@ use lib.ListN.{length, replicate}
 use Rattle.rules.specs.State.{most-handles, most-terms}
 use Rattle.sheets.specs.Reports.{keys-bytes}
 use Rattle.sheets.specs.Calls.{over}
-use Rattle.deciding.specs.declared.Term.{Term as Kind}
-use Rattle.deciding.specs.declared.Term.the-variants.{Data, Key, Seal}
-use Rattle.deciding.specs.declared.Entry.{Entry}
+use Rattle.shapes.specs.declared.Term.{Term as Kind}
+use Rattle.shapes.specs.declared.Term.the-variants.{Data, Key, Seal}
+use Rattle.shapes.specs.declared.Entry.{Entry}
 use Rattle.token.specs.declared.Token.{Token}
 use Rattle.token.specs.declared.Listed.{Listed}
 use Rattle.token.specs.declared.Listed.the-variants.{Keys, Short}
@@ -19,7 +19,7 @@ use Rattle.token.specs.declared.Origin.{Origin}
 use Rattle.token.specs.declared.Origin.the-variants.{Generated, Own, NoKey}
 use Rattle.token.specs.Chains.{places}
 use Rattle.token.specs.Shows.{blank-entry, blank-slot}
-use Rattle.deciding.specs.Decisions.{isKey, keyOf}
+use Rattle.shapes.specs.Entries.{isKey, keyOf}
 
 -- the token of which everything is blank
 abbrev pub blank-token : Token

@@ -11,16 +11,16 @@ use Rattle.terms.specs.Terms.{Term, item, key, seal, number-of}
 use Rattle.terms.specs.Following.{held-by-following}
 use Rattle.rules.specs.State.{State, Now, dead, live, Origin, generated, own, slot, is-live, most-handles, most-terms}
 use Rattle.rules.specs.State.{Slot as Handle}
-use Rattle.deciding.specs.declared.Entry.{Entry}
-use Rattle.deciding.specs.declared.Term.{Term as Kind}
-use Rattle.deciding.specs.declared.Term.the-variants.{Data, Key, Seal}
-use Rattle.deciding.specs.declared.Slot.{Slot}
+use Rattle.shapes.specs.declared.Entry.{Entry}
+use Rattle.shapes.specs.declared.Term.{Term as Kind}
+use Rattle.shapes.specs.declared.Term.the-variants.{Data, Key, Seal}
+use Rattle.shapes.specs.declared.Slot.{Slot}
 use Rattle.token.specs.declared.Links.{Links}
 use Rattle.token.specs.declared.Hands.{Hands}
 use Rattle.token.specs.declared.Token.{Token}
-pub use Rattle.deciding.specs.Blanks.{blank-entry, blank-slot, entry}
+pub use Rattle.shapes.specs.Entries.{blank-entry, blank-slot, entry}
 use Rattle.token.specs.Chains.{Linked, places}
-use Rattle.token.specs.Live.{Words, bit}
+use Rattle.handles.specs.Live.{Words, bit}
 
 unfoldable pub is-own : Option Origin → Bool
 is-own none = false

@@ -1,62 +1,20 @@
-// What a token tells besides the answers to commands: a fresh token, the known keys, where a key comes from.
+// What a token tells besides the answers to commands: the known keys, where a key comes from, how many handles are live.
 ghost use mathlib.Core.Path.{_≡_};
 ghost use Prim.Native.Nat.{_*_, _≤_};
 ghost use lib.ListN.{length};
 ghost use Rattle.sheets.specs.Reports.{keys-bytes};
 ghost use Rattle.sheets.specs.Calls.{over};
-ghost use Rattle.token.specs.Live.{count-in};
-ghost use Rattle.token.specs.Known.{blank-token, is-marked, marked-keys, ListedInto, is-key-no, origin-of, origin-in};
-use crate::Hands;
-use crate::Links;
+ghost use Rattle.handles.specs.Live.{count-in};
+ghost use Rattle.token.specs.Known.{is-marked, marked-keys, ListedInto, is-key-no, origin-of, origin-in};
 use crate::Listed;
 use crate::Origin;
 use crate::Table;
 use crate::Token;
-use crate::live::count;
-use deciding::Entry;
-use deciding::KeyNo;
-use deciding::Marks;
-use deciding::Slot;
-use deciding::Term;
-use deciding::TermNo;
-use deciding::decide::key_of;
-
-// The token with no term and no live handle.
-pub fn fresh() -> Token
-    ensures { λ r. ⌜ r ≡ blank-token ⌝ }
-{
-    let marks = Marks {
-        held: false,
-        own: false,
-    };
-    let entry = Entry {
-        term: Term::Data,
-        marks,
-    };
-    let slot = Slot {
-        key: KeyNo(0),
-        term: TermNo(0),
-        flags: 0,
-    };
-    Token {
-        table: Table {
-            entries: [entry; 1024],
-            terms: 0,
-            keys: 0,
-        },
-        links: Links {
-            newest: [0; 1024],
-            older: [0; 1024],
-            heads: [0; 1024],
-            chain: [0; 1024],
-            codes: [0; 1024],
-        },
-        hands: Hands {
-            slots: [slot; 256],
-            live: [0; 4],
-        },
-    }
-}
+use handles::count;
+use shapes::Entry;
+use shapes::KeyNo;
+use shapes::Term;
+use shapes::entries::key_of;
 
 fn marked(entry: Entry) -> bool
     ensures { λ r. ⌜ r ≡ is-marked entry ⌝ }

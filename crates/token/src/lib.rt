@@ -1,23 +1,15 @@
-// The symbolic token: its parts by value, and the direct call. What each part shows of document 01's state is said in specs/Shows.antt.
-mod advance;
-mod find;
+// The symbolic token: its parts, a fresh one, and what a token tells. What each part shows of document 01's state is said in
+// specs/Shows.antt.
 pub mod known;
-mod leaks;
-mod live;
-mod look;
-mod one;
-pub mod running;
 
-ghost use Rattle.token.specs.Direct.{Reached, Answered};
-use advance::advance;
-use deciding::Entry;
-use deciding::HandleNo;
-use deciding::Slot;
-use deciding::TermNo;
-use one::not_a_call;
-use one::one_command;
-use one::value_in;
-use reader::Checked;
+ghost use mathlib.Core.Path.{_≡_};
+ghost use Rattle.token.specs.Known.{blank-token};
+use shapes::Entry;
+use shapes::KeyNo;
+use shapes::Marks;
+use shapes::Slot;
+use shapes::Term;
+use shapes::TermNo;
 
 // The terms by number, and how many terms and keys there are. Past the last term every entry is blank.
 pub struct Table {
@@ -49,42 +41,6 @@ pub struct Token {
     pub hands: Hands,
 }
 
-// The numbers that a command names, 0 where it names none.
-pub struct Names {
-    pub a: HandleNo,
-    pub b: HandleNo,
-    pub t: TermNo,
-    pub u: TermNo,
-}
-
-// The slot that a change stores, and the live words that it leaves.
-pub struct SlotPut {
-    pub number: HandleNo,
-    pub slot: Slot,
-    pub live: [u64; 4],
-}
-
-// The entry that a change stores, and the counts that it leaves.
-pub struct EntryPut {
-    pub at: usize,
-    pub entry: Entry,
-    pub terms: u16,
-    pub keys: u16,
-}
-
-// What the direct call gives back.
-pub struct Called {
-    pub token: Token,
-    pub answer: u8,
-    pub value: u16,
-}
-
-// What running a sheet leaves: what the sheet was found to be, and the token at the end.
-pub struct Ran {
-    pub checked: Checked,
-    pub token: Token,
-}
-
 // The list of known keys in a buffer: so many were written, or the buffer is too short.
 pub enum Listed {
     Keys(u16),
@@ -98,25 +54,39 @@ pub enum Origin {
     NoKey,
 }
 
-// The direct call: one command by its number and its body's bytes, run as a sheet of one command.
-pub fn call(token: Token, policy: u8, number: u8, body: &[u8]) -> Called
-    requires { ⌜ Reached token policy ⌝ }
-    ensures { λ r. ⌜ Answered token policy number (now (body .entry)) r ⌝ }
+// The token with no term and no live handle.
+pub fn fresh() -> Token
+    ensures { λ r. ⌜ r ≡ blank-token ⌝ }
 {
-    if not_a_call(policy, number, body) {
-        return Called {
-            token,
-            answer: 1,
-            value: 0,
-        };
-    }
-    let sheet = one_command(policy, number, body);
-    let end = 6 + body.len();
-    let mut said = [0u8; 3];
-    let next = advance(token, policy, &sheet[0..end], 1, &mut said);
-    Called {
-        token: next,
-        answer: said[0],
-        value: value_in(&said),
+    let marks = Marks {
+        held: false,
+        own: false,
+    };
+    let entry = Entry {
+        term: Term::Data,
+        marks,
+    };
+    let slot = Slot {
+        key: KeyNo(0),
+        term: TermNo(0),
+        flags: 0,
+    };
+    Token {
+        table: Table {
+            entries: [entry; 1024],
+            terms: 0,
+            keys: 0,
+        },
+        links: Links {
+            newest: [0; 1024],
+            older: [0; 1024],
+            heads: [0; 1024],
+            chain: [0; 1024],
+            codes: [0; 1024],
+        },
+        hands: Hands {
+            slots: [slot; 256],
+            live: [0; 4],
+        },
     }
 }

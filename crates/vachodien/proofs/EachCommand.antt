@@ -10,7 +10,7 @@ use Rattle.rules.specs.Templates.{Policy}
 use Rattle.rules.specs.Commands.{Command}
 use Rattle.rules.specs.State.{State}
 use Rattle.rules.specs.Runs.{Answer, Step, Run, ends, then, Reachable}
-use Rattle.token.proofs.Going.{reachable-next}
+use Rattle.running.proofs.Going.{reachable-next}
 
 -- command c, answered by the answer with i answers before it
 pub record Stepped (p : Policy) (c : Command) (said : List Answer) (i : ℕ) : Type 0 where

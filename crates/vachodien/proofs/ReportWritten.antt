@@ -15,8 +15,8 @@ use Rattle.sheets.specs.Reports.{keys-bytes}
 use Rattle.sheets.specs.Calls.{over}
 use Rattle.sheets.specs.Reports.{records-bytes, report-bytes}
 use Rattle.sheets.proofs.Reports.{report-length}
-use Rattle.deciding.specs.declared.Entry.{Entry}
-use Rattle.deciding.specs.Decisions.{isKey}
+use Rattle.shapes.specs.declared.Entry.{Entry}
+use Rattle.shapes.specs.Entries.{isKey}
 use Rattle.sheets.proofs.Calls.{over-length}
 use Rattle.writer.proofs.Over.{lent-length, over-lent, copied-next, copied-length, copied-all}
 use Rattle.token.specs.declared.Token.{Token}

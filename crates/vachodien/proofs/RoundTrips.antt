@@ -20,8 +20,8 @@ use Rattle.sheets.specs.Calls.{answer-number, over}
 use Rattle.sheets.proofs.Calls.{over-front}
 use Rattle.sheets.proofs.Faultless.{none-faultless}
 use Rattle.sheets.proofs.Good.{one-reading}
-use Rattle.deciding.specs.Commands.{commandOf}
-use Rattle.deciding.specs.declared.SheetEntry.{SheetEntry}
+use Rattle.shapes.specs.Commands.{commandOf}
+use Rattle.shapes.specs.declared.SheetEntry.{SheetEntry}
 use Rattle.reader.specs.declared.Checked.the-variants.{Good}
 use Rattle.reader.specs.declared.Read.{Read}
 use Rattle.reader.specs.declared.Read.the-variants.{Entry, NoEntry}

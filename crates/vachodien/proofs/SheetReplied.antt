@@ -14,11 +14,11 @@ use Rattle.sheets.proofs.Reports.{records-length}
 use Rattle.sheets.proofs.Calls.{over-front}
 use Rattle.reader.specs.declared.Checked.{Checked}
 use Rattle.reader.specs.declared.Checked.the-variants.{Good, Malformed}
-use Rattle.token.specs.declared.Ran.{Ran}
+use Rattle.running.specs.declared.Ran.{Ran}
 use Rattle.token.specs.declared.Token.{Token}
 use Rattle.token.specs.Known.{marked-keys}
-use Rattle.token.specs.Run.{RanSheet}
-use Rattle.token.proofs.RunTold.{fault-told, has-run, answers-counted, known-told}
+use Rattle.running.specs.Run.{RanSheet}
+use Rattle.running.proofs.RunTold.{fault-told, has-run, answers-counted, known-told}
 use Rattle.vachodien.specs.declared.Reported.{Reported}
 use Rattle.vachodien.specs.declared.Reported.the-variants.{Report, Short}
 use Rattle.vachodien.specs.Replied.{CalledOn, left-report, reported-as, put-as, reported-number, ReportedInto}

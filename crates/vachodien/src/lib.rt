@@ -6,7 +6,7 @@ ghost use Rattle.vachodien.specs.Replied.{CalledOn, SheetWritten};
 use reader::Checked;
 use reader::check;
 use report::report;
-use token::running::run;
+use running::run;
 use writer::Written;
 use writer::write;
 

@@ -8,8 +8,8 @@ ghost use Rattle.sheets.specs.Sheets.{entry-length, bodies-begin, contents, bod
 ghost use Rattle.sheets.specs.Calls.{over};
 ghost use Rattle.writer.specs.Writer.{handed-commands, first-unholdable, asked-sheet, wrote};
 ghost use Rattle.writer.specs.Parts.{found-as, AllHeld, Ready, IsUnholdable};
-use deciding::parse::body_length;
-use deciding::parse::known_number;
+use shapes::parse::body_length;
+use shapes::parse::known_number;
 
 // What the writer answers: the sheet was written, so many bytes; the place of what no sheet can hold; the buffer is too short.
 pub enum Written {

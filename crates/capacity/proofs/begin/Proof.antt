@@ -4,8 +4,8 @@ use borrow.Author.Needs.{needs}
 use Rattle.rules.specs.Templates.{plain}
 use Rattle.sheets.specs.Sheets.{policy-number}
 use Rattle.token.specs.declared.Token.{Token}
-use Rattle.token.specs.Direct.{Reached}
-use Rattle.token.proofs.Going.{reached-fresh}
+use Rattle.running.specs.Direct.{Reached}
+use Rattle.running.proofs.Going.{reached-fresh}
 use Rattle.capacity.proofs.begin.Statement.{statement}
 use Rattle.capacity.proofs.begin.Tie as tie
 

@@ -3,8 +3,8 @@
 use Prim.Native.Nat.{_≤_, _-_}
 use native.Mathlib.Omega.{arith}
 use borrow.Author.Needs.{needs}
-use Rattle.token.specs.Direct.{Reached}
-use Rattle.token.proofs.Going.{reached-again}
+use Rattle.running.specs.Direct.{Reached}
+use Rattle.running.proofs.Going.{reached-again}
 use Rattle.capacity.proofs.repeat.Statement.{statement}
 use Rattle.capacity.proofs.repeat.Tie as tie
 

@@ -7,8 +7,8 @@ use native.Mathlib.Omega.{arith}
 use lib.ListN.{length}
 use borrow.Author.Needs.{needs}
 use Rattle.token.specs.declared.Token.{Token}
-use Rattle.token.specs.Direct.{Reached}
-use Rattle.token.proofs.Going.{reached-again}
+use Rattle.running.specs.Direct.{Reached}
+use Rattle.running.proofs.Going.{reached-again}
 use Rattle.direct.proofs.sequence.Statement.{statement}
 use Rattle.direct.proofs.sequence.Tie as tie
 

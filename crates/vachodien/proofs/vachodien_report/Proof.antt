@@ -5,7 +5,7 @@ use mathlib.Core.Path.{_≡_, sym}
 use native.Mathlib.Omega.{arith}
 use borrow.Author.Needs.{needs}
 use lib.ListN.{length-replicate}
-use Rattle.token.proofs.RunTold.{records-kept, few-commands}
+use Rattle.running.proofs.RunTold.{records-kept, few-commands}
 use Rattle.vachodien.proofs.Numbers.{report-number, short-number}
 use Rattle.vachodien.proofs.SheetReplied.{malformed-called, good-called}
 use Rattle.vachodien.proofs.vachodien_report.Statement.{statement}

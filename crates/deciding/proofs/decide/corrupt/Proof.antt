@@ -1,4 +1,4 @@
--- `token::decide::corrupt` meets its contract: at each return the handle is dead, or live with the slot that was found.
+-- `deciding::decide::corrupt` meets its contract: at each return the handle is dead, or live with the slot that was found.
 -- Assumes nothing.
 use borrow.Author.Needs.{needs}
 use Rattle.rules.specs.Refusals.{first}

@@ -1,4 +1,4 @@
--- `token::decide::decide` meets its contract: in each arm the command is that arm's, and its own function answers.
+-- `deciding::decide::decide` meets its contract: in each arm the command is that arm's, and its own function answers.
 -- Assumes nothing.
 use borrow.Author.Needs.{needs}
 use Rattle.deciding.specs.Decisions.{decided}

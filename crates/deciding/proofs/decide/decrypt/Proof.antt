@@ -1,12 +1,9 @@
--- `token::decide::decrypt` meets its contract: each return is the answer of the tests that led there (Answers).
+-- `deciding::decide::decrypt` meets its contract: each return is the answer of the tests that led there (Answers).
 -- Assumes nothing.
 use borrow.Author.Needs.{needs}
 use Rattle.deciding.proofs.Answers.{decrypt-3, decrypt-4, decrypt-6, decrypt-7, decrypt-8, decrypt-0}
 use Rattle.deciding.proofs.decide.decrypt.Statement.{statement}
 use Rattle.deciding.proofs.decide.decrypt.Tie as tie
-
--- `token::decide::decrypt` meets its contract: at each return the tests that led there say which refusal is the first.
--- Assumes nothing.
 
 enum-known-h : tie.Need-enum-known-h
 enum-known-h c = search needs

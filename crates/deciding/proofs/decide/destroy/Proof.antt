@@ -1,4 +1,4 @@
--- `token::decide::destroy` meets its contract: at each return the handle is dead, or live.
+-- `deciding::decide::destroy` meets its contract: at each return the handle is dead, or live.
 -- Assumes nothing.
 use borrow.Author.Needs.{needs}
 use Rattle.rules.specs.Refusals.{first}

@@ -1,12 +1,9 @@
--- `token::decide::encrypt` meets its contract: each return is the answer of the tests that led there (Answers).
+-- `deciding::decide::encrypt` meets its contract: each return is the answer of the tests that led there (Answers).
 -- Assumes nothing.
 use borrow.Author.Needs.{needs}
 use Rattle.deciding.proofs.Answers.{encrypt-3, encrypt-4, encrypt-6, encrypt-7, encrypt-9, encrypt-0}
 use Rattle.deciding.proofs.decide.encrypt.Statement.{statement}
 use Rattle.deciding.proofs.decide.encrypt.Tie as tie
-
--- `token::decide::encrypt` meets its contract: at each return the tests that led there say which refusal is the first.
--- Assumes nothing.
 
 enum-known-h : tie.Need-enum-known-h
 enum-known-h c = search needs

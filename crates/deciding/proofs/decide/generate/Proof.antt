@@ -1,12 +1,9 @@
--- `token::decide::generate` meets its contract: each return is the answer of the tests that led there (Answers).
+-- `deciding::decide::generate` meets its contract: each return is the answer of the tests that led there (Answers).
 -- Assumes nothing.
 use borrow.Author.Needs.{needs}
 use Rattle.deciding.proofs.Answers.{generate-2, generate-5, generate-10, generate-11, generate-0}
 use Rattle.deciding.proofs.decide.generate.Statement.{statement}
 use Rattle.deciding.proofs.decide.generate.Tie as tie
-
--- `token::decide::generate` meets its contract: at each return the tests that led there say which refusal is the first.
--- Assumes nothing.
 
 refused-requires : tie.Need-refused-requires
 refused-requires c κs = search needs

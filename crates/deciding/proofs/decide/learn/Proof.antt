@@ -1,4 +1,4 @@
--- `token::decide::learn` meets its contract: at each return the tests say whether the entry is a key that is not held.
+-- `deciding::decide::learn` meets its contract: at each return the tests say whether the entry is a key that is not held.
 -- Assumes nothing.
 use borrow.Author.Tests.{not-true, not-false}
 use borrow.Author.Needs.{needs}

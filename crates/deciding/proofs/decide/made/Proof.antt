@@ -1,4 +1,4 @@
--- `token::decide::made` meets its contract: the seal has an equal, or is new, and then there is room or not.
+-- `deciding::decide::made` meets its contract: the seal has an equal, or is new, and then there is room or not.
 -- Assumes nothing.
 use mathlib.Core.Bool.{and-false}
 use borrow.Author.Tests.{le-leb, lt-leb}

@@ -1,4 +1,4 @@
--- `token::decide::own_key` meets its contract: the table is full, or not.
+-- `deciding::decide::own_key` meets its contract: the table is full, or not.
 -- Assumes nothing.
 use borrow.Author.Tests.{le-leb, lt-leb}
 use borrow.Author.Needs.{needs}

@@ -1,12 +1,9 @@
--- `token::decide::seal` meets its contract: each return is the answer of the tests that led there (Answers).
+-- `deciding::decide::seal` meets its contract: each return is the answer of the tests that led there (Answers).
 -- Assumes nothing.
 use borrow.Author.Needs.{needs}
 use Rattle.deciding.proofs.Answers.{seal-4, seal-4-term, seal-7, seal-7-term, seal-8, seal-0}
 use Rattle.deciding.proofs.decide.seal.Statement.{statement}
 use Rattle.deciding.proofs.decide.seal.Tie as tie
-
--- `token::decide::seal` meets its contract: at each return the tests that led there say which refusal is the first.
--- Assumes nothing.
 
 enum-known-k : tie.Need-enum-known-k
 enum-known-k c = search needs

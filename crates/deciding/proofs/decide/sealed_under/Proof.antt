@@ -1,4 +1,4 @@
--- `token::decide::sealed_under` meets its contract: in each arm the term is that arm's.
+-- `deciding::decide::sealed_under` meets its contract: in each arm the term is that arm's.
 -- Assumes nothing.
 use borrow.Author.Needs.{needs}
 use Rattle.deciding.proofs.decide.sealed_under.Statement.{statement}

@@ -1,4 +1,4 @@
--- `token::decide::unwrap` meets its contract: a refusal 2, 3 or 4 is the first, or handle and term are found.
+-- `deciding::decide::unwrap` meets its contract: a refusal 2, 3 or 4 is the first, or handle and term are found.
 -- Assumes nothing.
 use borrow.Author.Tests.{le-leb, lt-leb}
 use borrow.Author.Needs.{needs}

@@ -1,4 +1,4 @@
--- `token::decide::unwrap_found` meets its contract: each return is the answer of the tests that led there (Answers).
+-- `deciding::decide::unwrap_found` meets its contract: each return is the answer of the tests that led there (Answers).
 -- Assumes nothing.
 use borrow.Author.Needs.{needs}
 use Rattle.deciding.proofs.Answers.{unwrap-5, unwrap-6, unwrap-7, unwrap-8, unwrap-10, unwrap-0}

@@ -1,12 +1,9 @@
--- `token::decide::wrap` meets its contract: each return is the answer of the tests that led there (Answers).
+-- `deciding::decide::wrap` meets its contract: each return is the answer of the tests that led there (Answers).
 -- Assumes nothing.
 use borrow.Author.Needs.{needs}
 use Rattle.deciding.proofs.Answers.{wrap-3, wrap-3-inner, wrap-6, wrap-0}
 use Rattle.deciding.proofs.decide.wrap.Statement.{statement}
 use Rattle.deciding.proofs.decide.wrap.Tie as tie
-
--- `token::decide::wrap` meets its contract: at each return the tests that led there say which refusal is the first.
--- Assumes nothing.
 
 enum-known-a : tie.Need-enum-known-a
 enum-known-a c = search needs

@@ -1,4 +1,4 @@
--- `token::tables::bars_wrap` meets its contract: each flag by its value.
+-- `deciding::tables::bars_wrap` meets its contract: each flag by its value.
 -- Assumes nothing.
 use borrow.Author.Needs.{needs}
 use Rattle.rules.specs.Flags.{value, has}

@@ -1,4 +1,4 @@
--- `token::tables::granted` meets its contract: each policy and making by its row of the table (TableRules).
+-- `deciding::tables::granted` meets its contract: each policy and making by its row of the table (TableRules).
 -- Assumes nothing.
 use borrow.Author.Needs.{needs}
 use Rattle.sheets.specs.Reading.{read-policy}

@@ -1,4 +1,4 @@
--- `token::tables::in_row` meets its contract: the table's rule at this row (TableRules).
+-- `deciding::tables::in_row` meets its contract: the table's rule at this row (TableRules).
 -- Assumes nothing.
 use borrow.Author.Needs.{needs}
 use Rattle.deciding.proofs.TableRules.{row-grants}

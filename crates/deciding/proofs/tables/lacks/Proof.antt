@@ -1,4 +1,4 @@
--- `token::tables::lacks` meets its contract: the table's rule at this row (TableRules).
+-- `deciding::tables::lacks` meets its contract: the table's rule at this row (TableRules).
 -- Assumes nothing.
 use borrow.Author.Needs.{needs}
 use Rattle.rules.specs.Flags.{has}

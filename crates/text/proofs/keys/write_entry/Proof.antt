@@ -1,7 +1,7 @@
 -- `write_entry` meets its contract: a known key's entry has its line, any other has none (KnownKeyLines).
 use native.Mathlib.Omega.{arith}
 use mathlib.Core.Path.{sym, ap, _∙_}
-use Rattle.deciding.specs.declared.KeyNo.{KeyNo}
+use Rattle.shapes.specs.declared.KeyNo.{KeyNo}
 use borrow.Author.Needs.{needs}
 use Rattle.text.proofs.KnownKeyLines.{wrote-unmarked, wrote-marked}
 use Rattle.text.proofs.keys.write_entry.Statement.{statement}

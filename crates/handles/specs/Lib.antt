@@ -1,0 +1,2 @@
+-- The live handles as words.
+pub mod Live

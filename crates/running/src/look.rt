@@ -1,0 +1,128 @@
+// What a command names, and what it sees of what was read of the token.
+ghost use mathlib.Core.Path.{_≡_};
+ghost use Prim.Native.Nat.{_<_};
+ghost use Rattle.rules.specs.State.{most-terms};
+ghost use Rattle.token.specs.Shows.{seal-code};
+ghost use Rattle.running.specs.Views.{namesOf, inside, handleIn, lookupIn, aimOf, seenIn};
+use crate::Names;
+use deciding::Equal;
+use deciding::Handle;
+use deciding::Lookup;
+use deciding::View;
+use handles::free;
+use handles::is_live;
+use shapes::Command;
+use shapes::Entry;
+use shapes::HandleNo;
+use shapes::Slot;
+use shapes::TermNo;
+use shapes::entries::key_of;
+
+fn named(a: HandleNo, b: HandleNo, t: TermNo, u: TermNo) -> Names
+    ensures { λ r. ⌜ r ≡ record { a = a; b = b; t = t; u = u } ⌝ }
+{
+    Names { a, b, t, u }
+}
+
+pub fn names_of(command: Command) -> Names
+    ensures { λ r. ⌜ r ≡ namesOf command ⌝ }
+{
+    let h = HandleNo(0);
+    let n = TermNo(0);
+    match command {
+        Command::Generate(flags) => named(h, h, n, n),
+        Command::Wrap(a, b) => named(a, b, n, n),
+        Command::Unwrap(a, t, flags) => named(a, h, t, n),
+        Command::Encrypt(a, t) => named(a, h, t, n),
+        Command::Decrypt(a, t) => named(a, h, t, n),
+        Command::Corrupt(a) => named(a, h, n, n),
+        Command::Destroy(a) => named(a, h, n, n),
+        Command::OwnKey => named(h, h, n, n),
+        Command::OwnData => named(h, h, n, n),
+        Command::Seal(t, u) => named(h, h, t, u),
+    }
+}
+
+// A term number as a place in the table, 0 where it is past the end.
+pub fn place(t: TermNo) -> usize
+    ensures { λ r. ⌜ r ≡ inside (t .0) ⌝ }
+    ensures { λ r. ⌜ r < most-terms ⌝ }
+{
+    if t.0 < 1024 { t.0 as usize } else { 0 }
+}
+
+pub fn handle_in(live: bool, slot: Slot) -> Handle
+    ensures { λ r. ⌜ r ≡ handleIn live slot ⌝ }
+{
+    if live {
+        Handle::Live(slot)
+    } else {
+        Handle::Dead
+    }
+}
+
+pub fn lookup_in(there: bool, entry: Entry) -> Lookup
+    ensures { λ r. ⌜ r ≡ lookupIn there entry ⌝ }
+{
+    if there {
+        Lookup::There(entry)
+    } else {
+        Lookup::Nothing
+    }
+}
+
+pub fn code(k: u16, p: u16) -> u32
+    ensures { λ r. ⌜ r ≡ seal-code k p ⌝ }
+{
+    (k as u32) * 1025 + (p as u32) + 1
+}
+
+// The code of the seal that the command would make.
+pub fn aim_of(command: Command, a: Slot, b: Slot, t: Entry) -> u32
+    ensures { λ r. ⌜ r ≡ aimOf command a b t ⌝ }
+{
+    let outer = a.key;
+    let inner = b.term;
+    match command {
+        Command::Generate(flags) => code(0, 0),
+        Command::Wrap(g, h) => code(outer.0, inner.0),
+        Command::Unwrap(h, n, flags) => code(0, 0),
+        Command::Encrypt(h, n) => code(outer.0, n.0),
+        Command::Decrypt(h, n) => code(0, 0),
+        Command::Corrupt(h) => code(0, 0),
+        Command::Destroy(h) => code(0, 0),
+        Command::OwnKey => code(0, 0),
+        Command::OwnData => code(0, 0),
+        Command::Seal(k, n) => code(key_of(t).0, n.0),
+    }
+}
+
+// What a command sees, of what it read.
+pub fn seen(
+    names: Names,
+    live: [u64; 4],
+    a: Slot,
+    b: Slot,
+    t: Entry,
+    u: Entry,
+    payload: Entry,
+    outer: Entry,
+    inner: Entry,
+    equal: Equal,
+    terms: u16,
+) -> View
+    ensures { λ r. ⌜ r ≡ seenIn names live a b t u payload outer inner equal terms ⌝ }
+{
+    View {
+        a: handle_in(is_live(live, names.a), a),
+        b: handle_in(is_live(live, names.b), b),
+        t: lookup_in(names.t.0 < terms, t),
+        u: lookup_in(names.u.0 < terms, u),
+        payload,
+        outer,
+        inner,
+        equal,
+        free: free(live),
+        terms,
+    }
+}

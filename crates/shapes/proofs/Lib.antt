@@ -1,0 +1,3 @@
+-- The law on constant tables, and the reading of a command.
+pub mod Tables
+pub mod Parsing

@@ -8,8 +8,7 @@ use native.Mathlib.Omega.{arith}
 use lib.Dec.{eqb, leb}
 use lib.ListN.{length, getD}
 use borrow.Author.Tests.{eqb-true, le-leb}
-use Rattle.terms.specs.Lists.{some-of}
-use Rattle.terms.specs.Following.{is-in}
+use Rattle.terms.specs.Lists.{some-of, is-in}
 use Rattle.rules.specs.Flags.{value}
 use Rattle.rules.specs.Templates.{plain, stp+, Making, by-generate, by-unwrap, templates, grants}
 use Rattle.rules.specs.Refusals.{no-keys-encrypted}

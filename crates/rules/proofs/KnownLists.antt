@@ -9,8 +9,8 @@ use mathlib.Core.Bool.{Bool, true, false, cond, true≢false}
 use mathlib.Core.List.{List, [], _∷_, _++_, append-nil, List·Memᴰ·head, List·Memᴰ·tail, List·Memᴰ·not-nil}
 use mathlib.Core.List.{List·Memᴰ·cases-cons, List·Memᴰ·append-cases}
 use mathlib.Core.List.{List·Memᴰ·eq-of-singleton, Memᴰ·append-left, Memᴰ·append-right, Memᴰ·cast}
-use Rattle.terms.specs.Lists.{_∈_}
-use Rattle.terms.specs.Following.{is-in, reached}
+use Rattle.terms.specs.Lists.{_∈_, is-in}
+use Rattle.terms.specs.Following.{reached}
 use Rattle.terms.proofs.Lists.{_⊆_, is-in-true, in-is-in}
 use Rattle.terms.proofs.Decision.{key-decided}
 use Rattle.rules.specs.State.{State, new-key}

@@ -7,7 +7,8 @@ use mathlib.Core.List.{List, [], _∷_, _++_}
 use mathlib.Core.Option.{Option, none, some}
 use lib.ListN.{getElem?, length}
 use Rattle.terms.specs.Terms.{Term}
-use Rattle.terms.specs.Following.{is-in, reached, held-by-following}
+use Rattle.terms.specs.Lists.{is-in}
+use Rattle.terms.specs.Following.{reached, held-by-following}
 use Rattle.rules.specs.Templates.{Policy}
 use Rattle.rules.specs.Commands.{Command}
 use Rattle.rules.specs.State.{State, fresh, new-key}

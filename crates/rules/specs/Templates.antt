@@ -4,7 +4,7 @@ use Prim.Native.Nat.{ℕ}
 use mathlib.Core.Bool.{Bool, true, false}
 use mathlib.Core.List.{List, [], _∷_}
 use lib.Dec.{leb}
-use Rattle.terms.specs.Following.{is-in}
+use Rattle.terms.specs.Lists.{is-in}
 
 pub data Policy : Type 0 where
   plain stp stp+ : Policy

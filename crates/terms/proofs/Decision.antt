@@ -5,10 +5,10 @@ use mathlib.Core.Bool.{true}
 use mathlib.Core.List.{List}
 use mathlib.Core.Logic.{_↔_}
 use mathlib.Core.Path.{_≡_, refl}
-use Rattle.terms.specs.Lists.{_∈_}
+use Rattle.terms.specs.Lists.{_∈_, is-in}
 use Rattle.terms.specs.Terms.{Term, Table, item, key, seal}
 use Rattle.terms.specs.WorkingOut.{Held}
-use Rattle.terms.specs.Following.{is-in, reached, held-by-following}
+use Rattle.terms.specs.Following.{reached, held-by-following}
 use Rattle.terms.proofs.Lists.{is-in-true, in-is-in}
 use Rattle.terms.proofs.Covers.{Covers}
 use Rattle.terms.proofs.Derivation.{held-given}

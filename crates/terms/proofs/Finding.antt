@@ -7,9 +7,9 @@ use mathlib.Core.Logic.{_⊎_, inl, inr, ⊎-elim}
 use mathlib.Core.Option.{Option, none, some}
 use mathlib.Core.Path.{_≡_, refl, sym, ap, _∙_}
 use lib.ListN.{length}
-use Rattle.terms.specs.Lists.{_∈_}
+use Rattle.terms.specs.Lists.{_∈_, is-in}
 use Rattle.terms.specs.Compromise.{Link, _under_}
-use Rattle.terms.specs.Following.{is-in, Found, found-or, outer-known, find}
+use Rattle.terms.specs.Following.{Found, found-or, outer-known, find}
 use Rattle.terms.proofs.Lists.{_⊆_, is-in-true, in-is-in}
 
 -- a found link: its outer key is known, and the links besides are all the others

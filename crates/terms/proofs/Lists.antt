@@ -11,8 +11,7 @@ use mathlib.Core.Path.{_≡_, refl, sym, ap, _∙_}
 use borrow.Author.Tests.{eqb-true, eq-eqb}
 use lib.Dec.{eqb}
 use lib.ListN.{length, getD, getElem?, set}
-use Rattle.terms.specs.Lists.{_∈_, some-of}
-use Rattle.terms.specs.Following.{is-in}
+use Rattle.terms.specs.Lists.{_∈_, some-of, is-in}
 
 infix 40 _⊆_
 -- everything in the first list is in the second

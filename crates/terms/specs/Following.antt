@@ -5,9 +5,8 @@ use Prim.Native.Nat.{ℕ, zero, suc}
 use mathlib.Core.Bool.{Bool, true, false}
 use mathlib.Core.List.{List, [], _∷_, _++_}
 use mathlib.Core.Option.{Option, none, some}
-use lib.Dec.{eqb}
 use lib.ListN.{length}
-use Rattle.terms.specs.Lists.{_∈_, some-of}
+use Rattle.terms.specs.Lists.{_∈_, is-in}
 use Rattle.terms.specs.Terms.{Term, Table, item, key, seal}
 use Rattle.terms.specs.Compromise.{Link, _under_}
 
@@ -30,9 +29,6 @@ links-of (key k ∷ list) = links-of list
 links-of (seal k (item n) ∷ list) = links-of list
 links-of (seal k (key j) ∷ list) = (j under k) ∷ links-of list
 links-of (seal k (seal j m) ∷ list) = links-of list
-
-unfoldable pub is-in : ℕ → List ℕ → Bool
-is-in k list = some-of (eqb k) list
 
 -- a link whose outer key is known: its inner key, and the links besides
 pub record Found : Type 0 where

@@ -8,7 +8,8 @@ use mathlib.Core.Bool.{true, false}
 use mathlib.Core.List.{List, [], _∷_}
 use mathlib.Core.Option.{some}
 use lib.ListN.{length, length-append}
-use Rattle.terms.specs.Following.{is-in, reached}
+use Rattle.terms.specs.Lists.{is-in}
+use Rattle.terms.specs.Following.{reached}
 use Rattle.terms.proofs.Lists.{bool-cases}
 use Rattle.rules.specs.Templates.{Policy}
 use Rattle.rules.specs.Commands.{Command, GENERATE, WRAP, UNWRAP, ENCRYPT, DECRYPT, CORRUPT, DESTROY, OWN-KEY, OWN-DATA, SEAL}

@@ -4,7 +4,7 @@
 use Prim.Native.Nat.{ℕ, zero, suc}
 use mathlib.Core.Bool.{cond}
 use mathlib.Core.List.{List, [], _∷_, _++_, map}
-use Rattle.terms.specs.Following.{is-in}
+use Rattle.terms.specs.Lists.{is-in}
 use Rattle.rules.specs.Templates.{Policy, plain, stp, stp+}
 use Rattle.rules.specs.Commands.{Command, GENERATE, WRAP, UNWRAP, ENCRYPT, DECRYPT, CORRUPT, DESTROY, OWN-KEY, OWN-DATA, SEAL}
 use Rattle.rules.proofs.RefusalTable.Scenes.{Scene, _then_, small, one-handle-left, all-handles, one-term-left, all-terms}

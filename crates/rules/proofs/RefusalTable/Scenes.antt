@@ -7,7 +7,7 @@ use mathlib.Core.Bool.{Bool, not}
 use mathlib.Core.List.{List, [], _∷_, _++_}
 use lib.ListN.{replicate}
 use Rattle.terms.specs.Terms.{Table, item, key, seal}
-use Rattle.terms.specs.Following.{is-in}
+use Rattle.terms.specs.Lists.{is-in}
 use Rattle.rules.specs.Commands.{Command}
 use Rattle.rules.specs.State.{Slot, dead, live, generated, own, Now, State}
 use Rattle.rules.specs.Templates.{plain}

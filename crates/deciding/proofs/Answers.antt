@@ -26,7 +26,7 @@ use Rattle.deciding.specs.declared.Lookup.{Lookup}
 use Rattle.deciding.specs.declared.Lookup.the-variants.{There, Nothing}
 use Rattle.shapes.specs.declared.Slot.{Slot}
 use Rattle.shapes.specs.declared.TermNo.{TermNo}
-use Rattle.shapes.specs.Entries.{isKeyEntry, keyOf, payloadNo, sealedUnder}
+use Rattle.shapes.specs.Entries.{isKeyEntry, keyOf, payloadNo, sealedUnder, isHeld}
 use Rattle.deciding.specs.Decisions.{decision, refusedWith, doneWith, grantedBy}
 use Rattle.deciding.specs.Decisions.{is-new, sealNumber, sealChange, learning, decidedGenerate, decidedWrap, decidedUnwrap}
 use Rattle.deciding.specs.Decisions.{decidedEncrypt, decidedDecrypt, decidedSeal}
@@ -88,7 +88,7 @@ module _ (a b : Handle) (outer inner : Entry) (equal : Equal) (terms : ℕ) wher
       unfolding first
       wrap-6 e nm = simp (e, la, lb, ← em, nm)
 
-      pub wrap-0 : {r : Decision} {l : Bool} → m ≡ false → l ≡ (outer .marks .held && not (inner .marks .held)) →
+      pub wrap-0 : {r : Decision} {l : Bool} → m ≡ false → l ≡ (isHeld outer && not (isHeld inner)) →
           Made equal terms (NewSeal (over .key) (under .term) l) r → Wrap r
       unfolding first
       wrap-0 ym el e = simp (la, lb, ← em, ym, ← el) e
@@ -110,11 +110,11 @@ module _ (policy flags : ℕ) (payload : Entry) (free : Free) (slot : Slot) (ent
       unwrap-6 e nm = simp (e, lt-leb 128 flags f, ← eg, yg, ← em, nm)
 
       module _ (ym : m ≡ false) where
-        pub unwrap-7 : {r : Decision} → r ≡ refusedWith 7 → not (entry .marks .held) ≡ true → Unwrap r
+        pub unwrap-7 : {r : Decision} → r ≡ refusedWith 7 → not (isHeld entry) ≡ true → Unwrap r
         unfolding first
         unwrap-7 e nh = simp (e, lt-leb 128 flags f, ← eg, yg, ← em, ym, nh)
 
-        module _ (yh : not (entry .marks .held) ≡ false) {s k b : Bool}
+        module _ (yh : not (isHeld entry) ≡ false) {s k b : Bool}
             (es : s ≡ sealedUnder (slot .key) (entry .term)) (ek : k ≡ isKeyEntry payload) (eb : b ≡ (s && k)) where
           pub unwrap-8 : {r : Decision} → r ≡ refusedWith 8 → not b ≡ true → Unwrap r
           unfolding first
@@ -151,11 +151,11 @@ module _ (policy : ℕ) (h : Handle) (t : Lookup) (number : TermNo) (equal : Equ
       encrypt-6 e nm = simp (e, l, th, ← em, nm)
 
       module _ (ym : m ≡ false) where
-        pub encrypt-7 : {r : Decision} → r ≡ refusedWith 7 → not (entry .marks .held) ≡ true → Encrypt r
+        pub encrypt-7 : {r : Decision} → r ≡ refusedWith 7 → not (isHeld entry) ≡ true → Encrypt r
         unfolding first
         encrypt-7 e nh = simp (e, l, th, ← em, ym, nh)
 
-        module _ (yh : not (entry .marks .held) ≡ false) {k b : Bool}
+        module _ (yh : not (isHeld entry) ≡ false) {k b : Bool}
             (ek : k ≡ isKeyEntry entry) (eb : b ≡ (leb 2 policy && k)) where
           pub encrypt-9 : {r : Decision} → r ≡ refusedWith 9 → b ≡ true → Encrypt r
           unfolding first
@@ -185,11 +185,11 @@ module _ (h : Handle) (t : Lookup) (payload : Entry) where
       decrypt-6 e nm = simp (e, l, th, ← em, nm)
 
       module _ (ym : m ≡ false) where
-        pub decrypt-7 : {r : Decision} → r ≡ refusedWith 7 → not (entry .marks .held) ≡ true → Decrypt r
+        pub decrypt-7 : {r : Decision} → r ≡ refusedWith 7 → not (isHeld entry) ≡ true → Decrypt r
         unfolding first
         decrypt-7 e nh = simp (e, l, th, ← em, ym, nh)
 
-        module _ (yh : not (entry .marks .held) ≡ false) {s : Bool} (es : s ≡ sealedUnder (slot .key) (entry .term)) where
+        module _ (yh : not (isHeld entry) ≡ false) {s : Bool} (es : s ≡ sealedUnder (slot .key) (entry .term)) where
           pub decrypt-8 : {r : Decision} → r ≡ refusedWith 8 → not s ≡ true → Decrypt r
           unfolding first
           decrypt-8 e ns = simp (e, l, th, ← em, ym, yh, ← es, ns)
@@ -214,16 +214,16 @@ module _ (k t : Lookup) (number : TermNo) (equal : Equal) (terms : ℕ) where
     seal-4-term e n = simp (e, kh, n)
 
     module _ {entry : Entry} (th : t ≡ There entry) where
-      pub seal-7 : {r : Decision} → r ≡ refusedWith 7 → not (key .marks .held) ≡ true → Seals r
+      pub seal-7 : {r : Decision} → r ≡ refusedWith 7 → not (isHeld key) ≡ true → Seals r
       unfolding first
       seal-7 e n = simp (e, kh, th, n)
 
-      module _ (yk : not (key .marks .held) ≡ false) where
-        pub seal-7-term : {r : Decision} → r ≡ refusedWith 7 → not (entry .marks .held) ≡ true → Seals r
+      module _ (yk : not (isHeld key) ≡ false) where
+        pub seal-7-term : {r : Decision} → r ≡ refusedWith 7 → not (isHeld entry) ≡ true → Seals r
         unfolding first
         seal-7-term e n = simp (e, kh, th, yk, n)
 
-        module _ (yt : not (entry .marks .held) ≡ false) {b : Bool} (eb : b ≡ isKeyEntry key) where
+        module _ (yt : not (isHeld entry) ≡ false) {b : Bool} (eb : b ≡ isKeyEntry key) where
           pub seal-8 : {r : Decision} → r ≡ refusedWith 8 → not b ≡ true → Seals r
           unfolding first
           seal-8 e nb = simp (e, kh, th, yk, yt, ← eb, nb)

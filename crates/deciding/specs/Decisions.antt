@@ -31,7 +31,7 @@ use Rattle.deciding.specs.declared.Change.the-variants.{Nothing, Bind, R
 use Rattle.deciding.specs.declared.Decision.{Decision}
 use Rattle.shapes.specs.declared.Command.{Command}
 use Rattle.shapes.specs.declared.Command.the-variants.{Generate, Wrap, Unwrap, Encrypt, Decrypt, Corrupt, Destroy, OwnKey, OwnData, Seal as SealTerm}
-use Rattle.shapes.specs.Entries.{blank-entry, blank-slot, isKeyEntry, keyOf, sealedUnder, payloadNo}
+use Rattle.shapes.specs.Entries.{blank-entry, blank-slot, isKeyEntry, keyOf, sealedUnder, payloadNo, isHeld}
 
 -- a refusal has value 0 and changes nothing
 abbrev pub refusedWith : ℕ → Decision
@@ -112,7 +112,7 @@ decidedWrap a b outer inner equal terms =
     ∷ (11 if leb most-terms terms && is-new equal)
     ∷ []))
     (sealNumber equal terms)
-    (sealChange equal (NewSeal (slot-in a .key) (slot-in b .term) (outer .marks .held && not (inner .marks .held))))
+    (sealChange equal (NewSeal (slot-in a .key) (slot-in b .term) (isHeld outer && not (isHeld inner))))
 
 abbrev pub decidedUnwrap : (policy : ℕ) → Handle → Lookup → (flags : ℕ) → (payload : Entry) → Free → Decision
 decidedUnwrap policy h t flags payload free =
@@ -123,7 +123,7 @@ decidedUnwrap policy h t flags payload free =
     ∷ (4 if is-missing t)
     ∷ (5 if not (grantedBy policy by-unwrap flags))
     ∷ (6 if not (has U (slot-in h .flags)))
-    ∷ (7 if not (entry-in t .marks .held))
+    ∷ (7 if not (isHeld (entry-in t)))
     ∷ (8 if not (sealedUnder (slot-in h .key) (entry-in t .term) && isKeyEntry payload))
     ∷ (10 if is-full free)
     ∷ []))
@@ -139,7 +139,7 @@ decidedEncrypt policy h t number equal terms =
     ((3 if is-dead h)
     ∷ (4 if is-missing t)
     ∷ (6 if not (has E (slot-in h .flags)))
-    ∷ (7 if not (entry-in t .marks .held))
+    ∷ (7 if not (isHeld (entry-in t)))
     ∷ (9 if no-keys-encrypted (read-policy policy) && isKeyEntry (entry-in t))
     ∷ (11 if leb most-terms terms && is-new equal)
     ∷ []))
@@ -148,7 +148,7 @@ decidedEncrypt policy h t number equal terms =
 
 -- a payload that is a key and not held leaks
 abbrev pub learning : (number : TermNo) → Entry → Change
-learning number e = cond (isKeyEntry e && not (e .marks .held)) (Know number) Nothing
+learning number e = cond (isKeyEntry e && not (isHeld e)) (Know number) Nothing
 
 abbrev pub decidedDecrypt : Handle → Lookup → (payload : Entry) → Decision
 decidedDecrypt h t payload =
@@ -157,7 +157,7 @@ decidedDecrypt h t payload =
     ((3 if is-dead h)
     ∷ (4 if is-missing t)
     ∷ (6 if not (has D (slot-in h .flags)))
-    ∷ (7 if not (entry-in t .marks .held))
+    ∷ (7 if not (isHeld (entry-in t)))
     ∷ (8 if not (sealedUnder (slot-in h .key) (entry-in t .term)))
     ∷ []))
     (payloadNo (entry-in t .term) .0)
@@ -180,7 +180,7 @@ decidedSeal k t number equal terms =
     decision
     (first
     ((4 if (is-missing k || is-missing t))
-    ∷ (7 if (not (entry-in k .marks .held) || not (entry-in t .marks .held)))
+    ∷ (7 if (not (isHeld (entry-in k)) || not (isHeld (entry-in t))))
     ∷ (8 if not (isKeyEntry (entry-in k)))
     ∷ (11 if leb most-terms terms && is-new equal)
     ∷ []))

@@ -7,6 +7,7 @@ use mathlib.Core.Path.{_≡_, refl, sym, ap, subst, _∙_}
 use mathlib.Core.List.{[], _∷_, _++_}
 use mathlib.Core.Option.{some}
 use lib.ListN.{length}
+use Rattle.shapes.specs.Entries.{isHeld, isOwn}
 use Rattle.terms.specs.Lists.{_∈_}
 use Rattle.terms.specs.Terms.{Term, key, seal, number-of}
 use Rattle.rules.specs.State.{State, most-terms}
@@ -93,8 +94,8 @@ module _ {s s′ : State} (i : Sound s) (i′ : Sound s′) {t : Token} (shows :
     -- one that is no seal
     pub changed-entered : {r : Token} → (e : Entry) → Extends (s′ .now .origins) (s .now .origins) →
         keys-with (e .term) (length (s .now .origins)) ≡ length (s′ .now .origins) →
-        e .term ≡ kind-for (s′ .now .table) (some m) → e .marks .own ≡ own-for (s′ .now .origins) (some m) →
-        e .marks .held ≡ held-for s′ (some m) → NoSeal (e .term) → SameMarks s s′ →
+        e .term ≡ kind-for (s′ .now .table) (some m) → isOwn e ≡ own-for (s′ .now .origins) (some m) →
+        isHeld e ≡ held-for s′ (some m) → NoSeal (e .term) → SameMarks s s′ →
         r .table ≡ appended (t .table) e → r .links ≡ t .links → ShowsHands (r .hands) (s′ .now) → Shows r s′
     changed-entered {r} e eo counted ek own held no-seal marks rt rl hands = parts-show room-more table links hands
       where

@@ -7,6 +7,7 @@ use mathlib.Core.Option.{some}
 use lib.Dec.{leb}
 use lib.ListN.{length}
 use borrow.Author.Tests.{not-false}
+use Rattle.shapes.specs.Entries.{isHeld}
 use Rattle.terms.specs.Lists.{_∈_}
 use Rattle.terms.specs.Terms.{Term, Table, listed, number-of, enter}
 use Rattle.terms.proofs.Lists.{bool-cases}
@@ -57,7 +58,7 @@ pub there : (now : Now) (n : ℕ) → (not (is-term now n) || false) ≡ false �
 there now n e = not-false _ (neither (not (is-term now n)) false e .0)
 
 pub held-asked : (s : State) (n : ℕ) →
-    not (entry-in (lookup-of s n) .marks .held) ≡ (not (judge s n) || false)
+    not (isHeld (entry-in (lookup-of s n))) ≡ (not (judge s n) || false)
 held-asked s n = rw (lookup-entry s n, held-seen s n) (sym (or-false _))
 
 -- so of two terms
@@ -73,8 +74,8 @@ both-there now n m e =
     (not-false _ (parts .0), there now m (parts .1))
 
 pub either-held-asked : (s : State) (n m : ℕ) →
-    (not (entry-in (lookup-of s n) .marks .held)
-    || not (entry-in (lookup-of s m) .marks .held)) ≡
+    (not (isHeld (entry-in (lookup-of s n)))
+    || not (isHeld (entry-in (lookup-of s m)))) ≡
     (not (judge s n) || (not (judge s m) || false))
 either-held-asked s n m = rw (lookup-entry s n, lookup-entry s m, held-seen s n, held-seen s m, or-false)
 

@@ -6,12 +6,13 @@ use mathlib.Core.List.{List, [], _∷_}
 use mathlib.Core.Logic.{_⊎_, inl, inr, ⊎-elim}
 use native.Mathlib.Omega.{arith}
 use lib.ListN.{length, getD, set}
+use Rattle.shapes.specs.Entries.{isOwn}
 use Rattle.shapes.specs.declared.Entry.{Entry}
 use Rattle.token.specs.Shows.{blank-entry, entry}
 use Rattle.running.specs.Leaks.{kind-at, held-at}
 
 abbrev pub own-at : List Entry → ℕ → Bool
-own-at entries i = getD entries i blank-entry .marks .own
+own-at entries i = isOwn (getD entries i blank-entry)
 
 -- entry p, held
 abbrev pub marked : List Entry → ℕ → List Entry

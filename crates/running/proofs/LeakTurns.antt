@@ -16,7 +16,7 @@ use Rattle.token.specs.declared.Table.{Table}
 use Rattle.shapes.specs.declared.Term.{Term as Kind}
 use Rattle.shapes.specs.declared.Term.the-variants.{Data, Key, Seal}
 use Rattle.token.specs.Shows.{blank-entry}
-use Rattle.shapes.specs.Entries.{isKey, isKeyEntry, keyOf, payloadNo}
+use Rattle.shapes.specs.Entries.{isKey, isKeyEntry, keyOf, payloadNo, isHeld}
 use Rattle.running.specs.Leaks.{kind-at, held-at, Leak, leads}
 use Rattle.token.proofs.ChainsLast.{last-le}
 use Rattle.running.proofs.LeakCount.{unheld, unheld-set}
@@ -30,10 +30,10 @@ use Rattle.running.proofs.LeakFollow.{Following, left, link-inside, wit
 
 -- an entry that is a key's and not held: what it says, and what the opposite says of a key
 abbrev leaking : Entry → Bool
-leaking e = isKeyEntry e && not (e .marks .held)
+leaking e = isKeyEntry e && not (isHeld e)
 
-not-leaking : (e : Entry) (l : KeyNo) → e .term ≡ Key l → leaking e ≡ false → e .marks .held ≡ true
-not-leaking e l k h = not-false (e .marks .held) (rw k at h)
+not-leaking : (e : Entry) (l : KeyNo) → e .term ≡ Key l → leaking e ≡ false → isHeld e ≡ true
+not-leaking e l k h = not-false (isHeld e) (rw k at h)
 
 leak-is-key : (x : Kind) (b : Bool) → (isKey x && not b) ≡ true → x ≡ Key (keyOf x)
 leak-is-key Data b h = absurd (true≢false (sym h))

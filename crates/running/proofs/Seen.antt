@@ -23,7 +23,7 @@ use Rattle.deciding.specs.declared.Handle.{Handle}
 use Rattle.deciding.specs.declared.Lookup.{Lookup}
 use Rattle.handles.specs.Live.{bit}
 use Rattle.token.specs.Shows.{entry-for, entry-of, slot-for, Shows}
-use Rattle.shapes.specs.Entries.{isKey, keyOf, sealedUnder, payloadNo}
+use Rattle.shapes.specs.Entries.{isKey, keyOf, sealedUnder, payloadNo, isHeld}
 use Rattle.deciding.specs.Decisions.{is-missing, entry-in}
 use Rattle.running.specs.Views.{entryAt, slotAt, handleIn, lookupIn}
 use Rattle.running.proofs.SeenParts.{handle-for, handle-in, lookup-for, lookup-in, is-there, below-there, or-item, getD-or}
@@ -36,7 +36,7 @@ unfolding term-at
 term-or now n = getD-or (now .table) n
 
 -- what is asked of the entry of a number is what the rules ask of the term of that number, also past the end
-pub held-seen : (s : State) (n : ℕ) → entry-of s n .marks .held ≡ judge s n
+pub held-seen : (s : State) (n : ℕ) → isHeld (entry-of s n) ≡ judge s n
 unfolding entry-of judge
 held-seen s n = entry-judged s (getElem? (s .now .table) n)
 

@@ -19,7 +19,7 @@ use Rattle.deciding.specs.declared.Handle.the-variants.{Live, Dead}
 use Rattle.deciding.specs.declared.Lookup.{Lookup}
 use Rattle.deciding.specs.declared.Lookup.the-variants.{There, Nothing}
 use Rattle.token.specs.Shows.{entry-for, slot-for}
-use Rattle.shapes.specs.Entries.{isKey, keyOf, sealedUnder, payloadNo}
+use Rattle.shapes.specs.Entries.{isKey, keyOf, sealedUnder, payloadNo, isHeld}
 use Rattle.deciding.specs.Decisions.{is-dead, slot-in, is-missing, entry-in}
 use Rattle.running.specs.Views.{handleIn, lookupIn}
 use Rattle.running.proofs.ChangeFor.{held-in}
@@ -117,13 +117,13 @@ lookup-in s (some m) e true q same = ap There (same refl)
 lookup-in s (some m) e false q same = absurd (false≢true q)
 
 -- what is asked of an entry: is its term held, is it a key and which, is it sealed under a key
-pub entry-held : (s : State) (m : Term) → entry-for s (some m) .marks .held ≡ held-in s m
+pub entry-held : (s : State) (m : Term) → isHeld (entry-for s (some m)) ≡ held-in s m
 unfolding entry-for held-in held-by-following
 entry-held s (item n) = refl
 entry-held s (key k) = refl
 entry-held s (seal k m) = refl
 
-pub entry-judged : (s : State) (x : Option Term) → entry-for s x .marks .held ≡ judged s x
+pub entry-judged : (s : State) (x : Option Term) → isHeld (entry-for s x) ≡ judged s x
 unfolding entry-for judged held-by-following
 entry-judged s none = refl
 entry-judged s (some (item n)) = refl

@@ -8,6 +8,7 @@ use mathlib.Core.Logic.{by-cases}
 use mathlib.Core.Option.{Option, none, some}
 use lib.ListN.{length, getD, getElem?, set}
 use lib.Seq.{getD-set-same, getD-set-other}
+use Rattle.shapes.specs.Entries.{isHeld, isOwn}
 use Rattle.terms.specs.Lists.{_∈_}
 use Rattle.terms.specs.Terms.{Term, Table, item, key, seal, number-of}
 use Rattle.terms.proofs.Lists.{at-in, below-at, at-end}
@@ -113,15 +114,15 @@ module _ (entries : List Entry) (terms : Table) (m : Term) (e : Entry) (inside :
       other q = rw (getD-set-other, at-other) (old i)
 
   -- one more entry beside one more term shows the terms
-  pub terms-appended : {now : Now} → e .term ≡ kind-for (now .table) (some m) → e .marks .own ≡ own-for (now .origins) (some m) →
+  pub terms-appended : {now : Now} → e .term ≡ kind-for (now .table) (some m) → isOwn e ≡ own-for (now .origins) (some m) →
       TermsShown entries terms now → TermsShown (set entries (length terms) e) (terms ++ m ∷ []) now
   terms-appended {now} ek eo shown =
       record {
         kinds = read-appended (λ (x : Entry). x .term) (kind-for (now .table)) ek (shown .kinds);
-        owns = read-appended (λ (x : Entry). x .marks .own) (own-for (now .origins)) eo (shown .owns);
+        owns = read-appended (λ (x : Entry). isOwn x) (own-for (now .origins)) eo (shown .owns);
       }
 
   -- and the marks
-  pub marks-appended : {s : State} → e .marks .held ≡ held-for s (some m) → MarksShown entries terms s →
+  pub marks-appended : {s : State} → isHeld e ≡ held-for s (some m) → MarksShown entries terms s →
       MarksShown (set entries (length terms) e) (terms ++ m ∷ []) s
-  marks-appended {s} eh shown = record { holds = read-appended (λ (x : Entry). x .marks .held) (held-for s) eh (shown .holds) }
+  marks-appended {s} eh shown = record { holds = read-appended (λ (x : Entry). isHeld x) (held-for s) eh (shown .holds) }

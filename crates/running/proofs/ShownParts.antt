@@ -10,6 +10,7 @@ use mathlib.Core.Option.{Option, none, some}
 use lib.Dec.{ltb}
 use lib.ListN.{length, getD, getElem?, List·getD-eq-default}
 use borrow.Author.Tests.{ltb-true, ltb-false}
+use Rattle.shapes.specs.Entries.{isHeld, isOwn}
 use Rattle.terms.specs.Terms.{Term, Table, item, key, seal, number-of}
 use Rattle.terms.proofs.Lists.{bool-cases}
 use Rattle.rules.specs.State.{State, Now, Origin, most-terms}
@@ -54,7 +55,7 @@ entry-parts s (some (seal k m)) = refl
 
 -- whether number i is the caller's own
 abbrev pub own-at : List Entry → ℕ → Bool
-own-at entries i = getD entries i blank-entry .marks .own
+own-at entries i = isOwn (getD entries i blank-entry)
 
 -- the entries stand beside a list of terms: each has its term's kind, with the numbers of the token as it is now, and tells
 -- whether the term is the caller's own
@@ -96,15 +97,15 @@ module _ {t : Token} {s : State} (shows : Shows t s) where
   terms-of =
       record {
         kinds = λ i. ap (λ (e : Entry). e .term) (parts i);
-        owns = λ i. ap (λ (e : Entry). e .marks .own) (parts i);
+        owns = λ i. ap (λ (e : Entry). isOwn e) (parts i);
       }
 
   -- and its marks
   marks-of : MarksShown (t .table .entries) (s .now .table) s
-  marks-of = record { holds = λ i. ap (λ (e : Entry). e .marks .held) (parts i) }
+  marks-of = record { holds = λ i. ap (λ (e : Entry). isHeld e) (parts i) }
 
 -- an entry is known by its three parts
-pub entry-from : (e : Entry) (kind : Kind) (h o : Bool) → e .term ≡ kind → e .marks .held ≡ h → e .marks .own ≡ o →
+pub entry-from : (e : Entry) (kind : Kind) (h o : Bool) → e .term ≡ kind → isHeld e ≡ h → isOwn e ≡ o →
     e ≡ entry kind h o
 entry-from e kind h o ek eh eo = λ i. record { term = ek i; marks = record { held = eh i; own = eo i } }
 

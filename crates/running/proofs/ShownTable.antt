@@ -6,6 +6,7 @@ use mathlib.Core.Path.{_≡_, sym, ap, subst, _∙_}
 use mathlib.Core.List.{List, [], _∷_, _++_}
 use mathlib.Core.Option.{some}
 use lib.ListN.{length, getElem?, set, length-append, length-set}
+use Rattle.shapes.specs.Entries.{isHeld, isOwn}
 use Rattle.terms.specs.Lists.{_∈_}
 use Rattle.terms.specs.Terms.{Term, Table, key}
 use Rattle.terms.proofs.Lists.{at-append}
@@ -60,8 +61,8 @@ module _ {s s′ : State} (i : Sound s) (i′ : Sound s′) {table : Stored} {u 
   -- a term is entered, and its entry appended
   pub table-entered : (m : Term) (e : Entry) → length (s .now .table) < most-terms → s′ .now .table ≡ s .now .table ++ m ∷ [] →
       Extends (s′ .now .origins) (s .now .origins) → keys-with (e .term) (length (s .now .origins)) ≡ length (s′ .now .origins) →
-      e .term ≡ kind-for (s′ .now .table) (some m) → e .marks .own ≡ own-for (s′ .now .origins) (some m) →
-      e .marks .held ≡ held-for u (some m) → TableShown (appended table e) (s′ .now) u
+      e .term ≡ kind-for (s′ .now .table) (some m) → isOwn e ≡ own-for (s′ .now .origins) (some m) →
+      isHeld e ≡ held-for u (some m) → TableShown (appended table e) (s′ .now) u
   table-entered m e room et eo counted ek own held =
       let grows : Grows (s .now) (s′ .now) = record { table-more = snoc-extends (s .now .table) m et; origins-more = eo } in
       let inside : length (s .now .table) < length (table .entries) = omega (arith, shown .entries-length) in

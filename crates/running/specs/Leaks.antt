@@ -6,6 +6,7 @@ use mathlib.Core.Bool.{Bool, true, false}
 use mathlib.Core.List.{List}
 use mathlib.Core.Logic.{_⊎_}
 use lib.ListN.{length, getD}
+use Rattle.shapes.specs.Entries.{isHeld, isOwn}
 use Rattle.rules.specs.State.{most-terms}
 use Rattle.shapes.specs.declared.Entry.{Entry}
 use Rattle.shapes.specs.declared.KeyNo.{KeyNo}
@@ -19,7 +20,7 @@ abbrev pub kind-at : List Entry → ℕ → Kind
 kind-at entries i = getD entries i blank-entry .term
 
 abbrev pub held-at : List Entry → ℕ → Bool
-held-at entries i = getD entries i blank-entry .marks .held
+held-at entries i = isHeld (getD entries i blank-entry)
 
 -- key term q seals key term p directly: number i is a seal of p under the key of q
 pub record Opens (entries : List Entry) (q p : ℕ) : Type 0 where
@@ -57,7 +58,7 @@ pub record Followable (entries : List Entry) (newest older : List ℕ) (n t : �
 pub record Followed (entries : List Entry) (t : ℕ) (result : List Entry) : Type 0 where
   pub same-length : length result ≡ length entries
   pub same-kind : (i : ℕ) → kind-at result i ≡ kind-at entries i
-  pub same-own : (i : ℕ) → getD result i blank-entry .marks .own ≡ getD entries i blank-entry .marks .own
+  pub same-own : (i : ℕ) → isOwn (getD result i blank-entry) ≡ isOwn (getD entries i blank-entry)
   pub still-held : (i : ℕ) → held-at entries i ≡ true → held-at result i ≡ true
   pub leak-held : (i : ℕ) → Leak entries t i → held-at result i ≡ true
   pub no-other : (i : ℕ) → held-at result i ≡ true → (held-at entries i ≡ true) ⊎ Leak entries t i

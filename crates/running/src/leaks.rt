@@ -3,7 +3,7 @@
 ghost use mathlib.Core.Path.{_≡_};
 ghost use mathlib.Core.Bool.{true, not, _&&_};
 ghost use Rattle.token.specs.Shows.{entry as entryWith};
-ghost use Rattle.shapes.specs.Entries.{isKeyEntry};
+ghost use Rattle.shapes.specs.Entries.{isKeyEntry, isHeld, isOwn};
 ghost use Rattle.running.specs.Leaks.{Followable};
 ghost use Rattle.running.specs.Applied.{TableFollowed};
 use shapes::Entry;
@@ -57,7 +57,7 @@ pub fn follow<'a>(
 
 // Is the entry a key's that is not held?
 fn leaks(entry: Entry) -> bool
-    ensures { λ r. ⌜ r ≡ (isKeyEntry entry && not (entry .marks .held)) ⌝ }
+    ensures { λ r. ⌜ r ≡ (isKeyEntry entry && not (isHeld entry)) ⌝ }
 {
     let term = entry.term;
     let marks = entry.marks;
@@ -70,7 +70,7 @@ fn leaks(entry: Entry) -> bool
 
 // The entry, held.
 fn known(entry: Entry) -> Entry
-    ensures { λ r. ⌜ r ≡ entryWith (entry .term) true (entry .marks .own) ⌝ }
+    ensures { λ r. ⌜ r ≡ entryWith (entry .term) true (isOwn entry) ⌝ }
 {
     let term = entry.term;
     let marks = entry.marks;

@@ -1,10 +1,10 @@
 -- What a command number and a body state, by the tests that the code asks. Assumes nothing.
 use mathlib.Core.Path.{_≡_, refl, sym, _∙_}
-use mathlib.Core.Bool.{true, false, or-true}
+use mathlib.Core.Bool.{true, false, or-true, false≢true}
 use mathlib.Core.List.{List}
 use Prim.Native.Nat.{ℕ, zero, suc, _<_, _≤_}
 use native.Mathlib.Omega.{arith}
-use borrow.Author.Tests.{lt-ltb, le-ltb, eq-eqb, ne-eqb, leb-true, leb-false}
+use borrow.Author.Tests.{lt-ltb, le-ltb, ltb-true, ltb-false, eq-eqb, ne-eqb, leb-true, leb-false}
 use lib.Dec.{leb}
 use lib.ListN.{length, getD, List·getD-eq-default}
 use Rattle.terms.proofs.Lists.{bool-cases}
@@ -17,7 +17,7 @@ use Rattle.shapes.specs.Commands.{commandOf, parsedIf, no-command, parse
 abbrev pub States : (number : ℕ) → (body : List ℕ) → Type 0
 States number body = parsed number body ≡ Known (commandOf (read-command number body))
 
--- the numbers from 1 to 10 are known
+-- the numbers from 1 to 10 are known, and no others
 above-unknown : (number : ℕ) → 10 < number → known-number number ≡ false
 unfolding known-number body-lengths
 above-unknown zero h = refl
@@ -37,42 +37,47 @@ known-to-10 number f =
     bool-cases (leb number 10) (λ e. e ∙ sym (up-to-10-known number f (leb-true number 10 e)))
     (λ e. e ∙ sym (above-unknown number (leb-false number 10 e)))
 
--- a number of no command has no body
-pub above-empty : (number : ℕ) → 10 < number → body-length number ≡ 0
-unfolding body-length body-lengths
-above-empty zero h = refl
-above-empty (suc n) h = let past : 10 ≤ n = omega arith in List·getD-eq-default body-lengths 0 past
+pub known-below : (number : ℕ) → known-number number ≡ true → number < 11
+unfolding known-number body-lengths
+known-below zero e = omega arith
+known-below (suc n) e = omega (arith, ltb-true n 10 e)
 
--- a number that is not 0 and none of 1 to k is above k
+-- a number of no command has no body
+pub unknown-empty : (number : ℕ) → known-number number ≡ false → body-length number ≡ 0
+unfolding known-number body-length body-lengths
+unknown-empty zero e = refl
+unknown-empty (suc n) e = List·getD-eq-default body-lengths 0 (ltb-false n 10 e)
+
+-- a known number that is none of 1 to k is above k
 abbrev NoneTo : ℕ → ℕ → Type 0
 NoneTo zero n = Unit
 NoneTo (suc k) n = NoneTo k n × (n ≡ suc k → ⊥)
 
-above : (k : ℕ) {n : ℕ} → (n ≡ 0 → ⊥) → NoneTo k n → k < n
-above zero f u = omega arith
-above (suc k) f u = let h : k < _ = above k f (u .0) in omega (arith, u .1)
+above : (k : ℕ) {n : ℕ} → 0 < n → NoneTo k n → k < n
+above zero h u = h
+above (suc k) h u = let g : k < _ = above k h (u .0) in omega (arith, u .1)
 
--- so of 1 to 10 the number that is none of 1 to 9 is 10
-pub ten : (n : ℕ) → (n ≡ 0 → ⊥) → n ≤ 10 → NoneTo 9 n → n ≡ 10
-ten n f h u = let g : 9 < n = above 9 f u in omega (arith, h, g)
+known-above-0 : (number : ℕ) → known-number number ≡ true → 0 < number
+unfolding known-number
+known-above-0 zero e = absurd (false≢true e)
+known-above-0 (suc n) e = omega arith
+
+-- so the one that is none of 1 to 9 is 10
+pub ten : (n : ℕ) → known-number n ≡ true → NoneTo 9 n → n ≡ 10
+ten n e u = let g : 9 < n = above 9 (known-above-0 n e) u in omega (arith, known-below n e, g)
 
 module _ (number : ℕ) (body : List ℕ) where
-  -- 0 is no command
-  pub number-0 : number ≡ 0 → parsed number body ≡ Unknown
-  unfolding parsed parsedIf no-command known-number
-  number-0 e = simp e
-
-  -- nor is a number above 10
-  pub number-above : 10 < number → parsed number body ≡ Unknown
+  -- an unknown number states no command
+  pub unknown : known-number number ≡ false → parsed number body ≡ Unknown
   unfolding parsed parsedIf no-command
-  number-above h = simp (above-unknown number h)
+  unknown e = simp e
 
-  -- nor a body of another length
+  -- nor does a body of another length
   pub other-length : (length body ≡ body-length number → ⊥) → parsed number body ≡ Unknown
   unfolding parsed parsedIf no-command
   other-length f = simp (ne-eqb _ _ f, or-true)
 
   -- every other number and body state a command
-  pub states : (number ≡ 0 → ⊥) → number ≤ 10 → length body ≡ body-length number → States number body
+  pub states : known-number number ≡ true → length body ≡ body-length number → States number body
   unfolding parsed parsedIf no-command
-  states f h e = simp (up-to-10-known number f h, eq-eqb _ _ e)
+  states e h = simp (e, eq-eqb _ _ h)

@@ -42,3 +42,10 @@ abbrev pub payloadNo : Kind → TermNo
 payloadNo Data = record { 0 = 0 }
 payloadNo (Key k) = record { 0 = 0 }
 payloadNo (Seal k p) = p
+
+-- what is marked of an entry: the caller can work it out; it is the caller's own
+abbrev pub isHeld : Entry → Bool
+isHeld e = e .marks .held
+
+abbrev pub isOwn : Entry → Bool
+isOwn e = e .marks .own

@@ -23,14 +23,6 @@ fn term_at(body: &[u8], at: usize) -> TermNo
     TermNo(high * 256 + low)
 }
 
-// The length of a command's body, by command number.
-fn length_of(number: u8) -> usize
-    requires { ⌜ number < 11 ⌝ }
-    ensures { λ r. ⌜ r ≡ body-length number ⌝ }
-{
-    LENGTHS[number as usize]
-}
-
 // Is this the number of a command?
 pub fn known_number(number: u8) -> bool
     ensures { λ r. ⌜ r ≡ known-number number ⌝ }
@@ -45,22 +37,19 @@ pub fn known_number(number: u8) -> bool
 pub fn body_length(number: u8) -> usize
     ensures { λ r. ⌜ r ≡ body-length number ⌝ }
 {
-    if 10 < number {
+    if !known_number(number) {
         return 0;
     }
-    length_of(number)
+    LENGTHS[number as usize]
 }
 
 pub fn parse(number: u8, body: &[u8]) -> Parsed
     ensures { λ r. ⌜ r ≡ parsed number (now (body .entry)) ⌝ }
 {
-    if number == 0 {
+    if !known_number(number) {
         return Parsed::Unknown;
     }
-    if 10 < number {
-        return Parsed::Unknown;
-    }
-    if body.len() != length_of(number) {
+    if body.len() != body_length(number) {
         return Parsed::Unknown;
     }
     match number {

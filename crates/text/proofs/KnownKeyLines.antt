@@ -9,7 +9,7 @@ use lib.ListN.{length, getD, take}
 use lib.Seq.{take-suc, take-all}
 use Rattle.rules.specs.State.{most-terms}
 use Rattle.shapes.specs.declared.Entry.{Entry}
-use Rattle.shapes.specs.Entries.{keyOf}
+use Rattle.shapes.specs.Entries.{keyOf, isOwn}
 use Rattle.token.specs.Shows.{blank-entry}
 use Rattle.token.specs.Known.{is-marked}
 use Rattle.text.specs.Text.{word, key-line}
@@ -24,10 +24,10 @@ unfolding marked-line
 wrote-unmarked e before at unmarked h = rw unmarked (wrote-few 20 (omega arith) (wrote-none before at h))
 
 pub wrote-marked : (e : Entry) (k : ℕ) → is-marked e ≡ true → k ≡ keyOf (e .term) .0 → {before after : List ℕ} {at end : ℕ}
-    → Wrote 20 (key-line k (own-word (e .marks .own))) before at after end
+    → Wrote 20 (key-line k (own-word (isOwn e))) before at after end
     → Wrote 20 (marked-line e) before at after end
 unfolding marked-line
-wrote-marked e k marked same w = rw marked (wrote-as (ap (λ (n : ℕ). key-line n (own-word (e .marks .own))) same) w)
+wrote-marked e k marked same w = rw marked (wrote-as (ap (λ (n : ℕ). key-line n (own-word (isOwn e))) same) w)
 
 -- where a key comes from, and a line feed
 pub wrote-own : (is-own : Bool) → is-own ≡ true → {m : ℕ} {before after : List ℕ} {at end : ℕ}

@@ -13,7 +13,7 @@ use Rattle.rules.proofs.Sound.{Sound}
 use Rattle.shapes.specs.declared.Entry.{Entry}
 use Rattle.shapes.specs.declared.Term.{Term as Kind}
 use Rattle.shapes.specs.declared.Term.the-variants.{Data, Key, Seal}
-use Rattle.shapes.specs.Entries.{isKey, keyOf}
+use Rattle.shapes.specs.Entries.{isKey, keyOf, isHeld, isOwn}
 use Rattle.token.specs.declared.Token.{Token}
 use Rattle.token.specs.Shows.{Shows, blank-entry, is-own, entry-of, entry-for}
 use Rattle.token.specs.Known.{marked-keys}
@@ -26,7 +26,7 @@ Told : List Origin → List Entry → Type 0
 Told origins entries =
     (i k : ℕ)
     → getD entries i blank-entry .term ≡ Key (record { 0 = k })
-    → own-word (getD entries i blank-entry .marks .own) ≡ origin-word (getElem? origins k)
+    → own-word (isOwn (getD entries i blank-entry)) ≡ origin-word (getElem? origins k)
 
 -- a kind that is a key's is its key number's
 key-kind : (kind : Kind) → isKey kind ≡ true → kind ≡ Key (keyOf kind)
@@ -39,13 +39,13 @@ told-lines : (origins : List Origin) (entries : List Entry) → Told origins ent
 unfolding Told marked-lines marked-line marked-keys key-lines
 told-lines origins [] told = refl
 told-lines origins (x ∷ entries) told =
-    bool-cases (isKey (x .term) && x .marks .held)
-    (λ (q : isKey (x .term) && x .marks .held ≡ true).
+    bool-cases (isKey (x .term) && isHeld x)
+    (λ (q : isKey (x .term) && isHeld x ≡ true).
     let here = told 0 (keyOf (x .term) .0) (key-kind (x .term) (both _ _ q .0)) in
     rw (q, here)
     (ap (λ (l : List ℕ). key-line (keyOf (x .term) .0) (origin-word (getElem? origins (keyOf (x .term) .0))) ++ l)
     (told-lines origins entries (λ i. told (suc i)))))
-    (λ (q : isKey (x .term) && x .marks .held ≡ false). rw q (told-lines origins entries (λ i. told (suc i))))
+    (λ (q : isKey (x .term) && isHeld x ≡ false). rw q (told-lines origins entries (λ i. told (suc i))))
 
 -- the word of a mark is the word of the origin that it marks
 same-word : (o : Origin) → own-word (is-own (some o)) ≡ origin-word (some o)
@@ -59,8 +59,8 @@ module _ {t : Token} {s : State} (sound : Sound s) (shown : Shows t s) where
   told i k e =
       let there = key-at shown i k e in
       let (o, at) = below-at (s .now .origins) k (sound .keys-counted (at-in (s .now .table) i there)) in
-      let mark : getD (t .table .entries) i blank-entry .marks .own ≡ is-own (getElem? (s .now .origins) k) =
-      ap (λ (x : Entry). x .marks .own) (shown .entries-shown i (key-inside shown i k e)) ∙ rw there refl in
+      let mark : isOwn (getD (t .table .entries) i blank-entry) ≡ is-own (getElem? (s .now .origins) k) =
+      ap (λ (x : Entry). isOwn x) (shown .entries-shown i (key-inside shown i k e)) ∙ rw there refl in
       ap own-word (mark ∙ ap is-own at) ∙ same-word o ∙ sym (ap origin-word at)
 
   pub keys-printed : marked-lines (t .table .entries) ≡ key-lines (s .now .origins) (marked-keys (t .table .entries))

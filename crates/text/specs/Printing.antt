@@ -10,7 +10,7 @@ use Rattle.sheets.specs.Faults.{entry-number}
 use Rattle.sheets.specs.Reports.{Tally, count-one}
 use Rattle.sheets.specs.Reading.{read-policy}
 use Rattle.shapes.specs.declared.Entry.{Entry}
-use Rattle.shapes.specs.Entries.{keyOf}
+use Rattle.shapes.specs.Entries.{keyOf, isOwn}
 use Rattle.token.specs.Known.{is-marked, marked-keys}
 use Rattle.text.specs.declared.Tally.{Tally as Counts}
 use Rattle.text.specs.Text.{word, command-name, first-line, command-line, tally-line, known-line, key-line}
@@ -42,7 +42,7 @@ own-word true = word "own"
 own-word false = word "generated"
 
 unfoldable pub marked-line : Entry → List ℕ
-marked-line e = cond (is-marked e) (key-line (keyOf (e .term) .0) (own-word (e .marks .own))) []
+marked-line e = cond (is-marked e) (key-line (keyOf (e .term) .0) (own-word (isOwn e))) []
 
 unfoldable pub marked-lines : List Entry → List ℕ
 marked-lines [] = []

@@ -12,7 +12,7 @@ use Rattle.rules.specs.State.{most-terms}
 use Rattle.shapes.specs.declared.Entry.{Entry}
 use Rattle.token.specs.declared.Origin.the-variants.{NoKey}
 use Rattle.token.specs.Shows.{blank-entry}
-use Rattle.shapes.specs.Entries.{keyOf}
+use Rattle.shapes.specs.Entries.{keyOf, isOwn}
 use Rattle.token.specs.Known.{is-marked, marked-keys, is-key-no, origin-of, origin-in}
 
 -- the known keys from entry i on, where that is a known key and where it is none
@@ -70,7 +70,7 @@ sought-none entries k = record { in-table = omega arith; rest = refl }
 
 module _ (entries : List Entry) (k i : ℕ) (whole : length entries ≡ most-terms) (so-far : Sought entries k i) where
   pub sought-here : i < most-terms → is-key-no k (getD entries i blank-entry .term) ≡ true
-      → origin-of (getD entries i blank-entry .marks .own) ≡ origin-in entries k
+      → origin-of (isOwn (getD entries i blank-entry)) ≡ origin-in entries k
   unfolding origin-in
   sought-here h e = let l : i < length entries = omega arith in rw (so-far .rest, drop-cons entries i blank-entry, e)
 

@@ -27,12 +27,12 @@ use Rattle.shapes.specs.declared.Entry.{Entry}
 use Rattle.shapes.specs.declared.Term.{Term as Kind}
 use Rattle.shapes.specs.declared.Term.the-variants.{Data, Key, Seal}
 use Rattle.token.specs.Shows.{Shows, blank-entry, entry-of, entry-for}
-use Rattle.shapes.specs.Entries.{isKey, keyOf}
+use Rattle.shapes.specs.Entries.{isKey, keyOf, isHeld}
 use Rattle.token.specs.Known.{marked-keys}
 
 -- entry e is key k's, and held
 abbrev Marked : Entry → ℕ → Type 0
-Marked e k = (e .term ≡ Key (record { 0 = k })) × (e .marks .held ≡ true)
+Marked e k = (e .term ≡ Key (record { 0 = k })) × (isHeld e ≡ true)
 
 -- a kind that is a key's is its key number's
 key-kind : (kind : Kind) → isKey kind ≡ true → kind ≡ Key (keyOf kind)
@@ -47,20 +47,20 @@ marked-in [] i k (e, h) = absurd (false≢true h)
 marked-in (x ∷ entries) zero k (e, h) =
     rw (e, h) (List·Memᴰ·head refl)
 marked-in (x ∷ entries) (suc i) k m =
-    bool-cases (isKey (x .term) && x .marks .held)
-    (λ (q : isKey (x .term) && x .marks .held ≡ true). rw q (List·Memᴰ·tail (marked-in entries i k m)))
-    (λ (q : isKey (x .term) && x .marks .held ≡ false). rw q (marked-in entries i k m))
+    bool-cases (isKey (x .term) && isHeld x)
+    (λ (q : isKey (x .term) && isHeld x ≡ true). rw q (List·Memᴰ·tail (marked-in entries i k m)))
+    (λ (q : isKey (x .term) && isHeld x ≡ false). rw q (marked-in entries i k m))
 
 -- and what is listed is a marked key of the entries
 in-marked : (entries : List Entry) (k : ℕ) → k ∈ marked-keys entries → (i : ℕ) × Marked (getD entries i blank-entry) k
 unfolding marked-keys
 in-marked [] k m = absurd (List·Memᴰ·not-nil m)
 in-marked (x ∷ entries) k m =
-    bool-cases (isKey (x .term) && x .marks .held)
-    (λ (q : isKey (x .term) && x .marks .held ≡ true). at-head q (rw q at m) (in-marked entries k))
-    (λ (q : isKey (x .term) && x .marks .held ≡ false). let r = in-marked entries k (rw q at m) in (suc (r .0), r .1))
+    bool-cases (isKey (x .term) && isHeld x)
+    (λ (q : isKey (x .term) && isHeld x ≡ true). at-head q (rw q at m) (in-marked entries k))
+    (λ (q : isKey (x .term) && isHeld x ≡ false). let r = in-marked entries k (rw q at m) in (suc (r .0), r .1))
   where
-    at-head : isKey (x .term) && x .marks .held ≡ true
+    at-head : isKey (x .term) && isHeld x ≡ true
         → k ∈ (keyOf (x .term) .0 ∷ marked-keys entries)
         → (k ∈ marked-keys entries → (i : ℕ) × Marked (getD entries i blank-entry) k)
         → (i : ℕ) × Marked (getD (x ∷ entries) i blank-entry) k
@@ -87,15 +87,15 @@ marked-ascending : (entries : List Entry) → KeysAscend entries → Ascending (
 unfolding marked-keys KeysAscend
 marked-ascending [] up = Ascending.none
 marked-ascending (x ∷ entries) up =
-    bool-cases (isKey (x .term) && x .marks .held)
-    (λ (q : isKey (x .term) && x .marks .held ≡ true).
+    bool-cases (isKey (x .term) && isHeld x)
+    (λ (q : isKey (x .term) && isHeld x ≡ true).
     rw q
     (ascending-cons _ _
     (λ b m.
     let r = in-marked entries b m in
     up 0 (suc (r .0)) (keyOf (x .term) .0) b (key-kind (x .term) (both _ _ q .0)) (r .1 .0) (omega arith))
     (marked-ascending entries (λ i j a b e f less. up (suc i) (suc j) a b e f (omega arith)))))
-    (λ (q : isKey (x .term) && x .marks .held ≡ false).
+    (λ (q : isKey (x .term) && isHeld x ≡ false).
     rw q (marked-ascending entries (λ i j a b e f less. up (suc i) (suc j) a b e f (omega arith))))
 
 -- an entry that is a key's stands beside that key
@@ -138,13 +138,13 @@ module _ {t : Token} {s : State} (shown : Shows t s) where
             let is = shown .entries-shown i (omega (arith, low, shown .room)) in
             let held = following-decides (covers sound) there .1 h in
             marked-in (t .table .entries) i k
-            (ap (λ (x : Entry). x .term) is ∙ rw at refl, ap (λ (x : Entry). x .marks .held) is ∙ rw at held);
+            (ap (λ (x : Entry). x .term) is ∙ rw at refl, ap (λ (x : Entry). isHeld x) is ∙ rw at held);
         no-other =
             λ {k} m.
             let r = in-marked (t .table .entries) k m in
             let at = key-at (r .0) k (r .1 .0) in
             let is = shown .entries-shown (r .0) (key-inside (r .0) k (r .1 .0)) in
             let marked : held-by-following (s .past .own) (s .past .given) (s .now .table) (key k) ≡ true =
-            rw at at (sym (ap (λ (x : Entry). x .marks .held) is) ∙ r .1 .1) in
+            rw at at (sym (ap (λ (x : Entry). isHeld x) is) ∙ r .1 .1) in
             following-decides (covers sound) (at-in (s .now .table) (r .0) at) .0 marked;
       }

@@ -8,6 +8,7 @@ use mathlib.Core.List.{List, [], _∷_}
 use lib.Dec.{eqb}
 use lib.ListN.{length, getD, getElem?}
 use borrow.Author.Tests.{eqb-true, eq-eqb}
+use Rattle.shapes.specs.Entries.{isOwn}
 use Rattle.terms.specs.Lists.{_∈_}
 use Rattle.terms.specs.Terms.{key}
 use Rattle.terms.proofs.Lists.{bool-cases, in-at, at-in}
@@ -38,7 +39,7 @@ is-key-here k kind e = subst (λ (x : Kind). is-key-no k x ≡ true) (sym e) (eq
 
 -- every entry of key k has this own mark
 AllMarked : List Entry → ℕ → Bool → Type 0
-AllMarked entries k own = (i : ℕ) → getD entries i blank-entry .term ≡ Key (record { 0 = k }) → getD entries i blank-entry .marks .own ≡ own
+AllMarked entries k own = (i : ℕ) → getD entries i blank-entry .term ≡ Key (record { 0 = k }) → isOwn (getD entries i blank-entry) ≡ own
 
 -- the first entry of key k tells its origin
 origin-found : (entries : List Entry) (k : ℕ) (own : Bool) → AllMarked entries k own → (i : ℕ)
@@ -73,7 +74,7 @@ module _ {t : Token} {s : State} (sound : Sound s) (shown : Shows t s) where
       origin-found (t .table .entries) k (is-own (getElem? (s .now .origins) k))
       (λ j e.
       let there = key-at shown j k e in
-      ap (λ (x : Entry). x .marks .own) (shown .entries-shown j (key-inside shown j k e)) ∙ rw there refl)
+      ap (λ (x : Entry). isOwn x) (shown .entries-shown j (key-inside shown j k e)) ∙ rw there refl)
       i (ap (λ (x : Entry). x .term) is ∙ rw at refl)
 
   -- a number that no command created is no key's

@@ -19,7 +19,7 @@ use Rattle.token.specs.declared.Origin.{Origin}
 use Rattle.token.specs.declared.Origin.the-variants.{Generated, Own, NoKey}
 use Rattle.token.specs.Chains.{places}
 use Rattle.token.specs.Shows.{blank-entry, blank-slot}
-use Rattle.shapes.specs.Entries.{isKey, keyOf}
+use Rattle.shapes.specs.Entries.{isKey, keyOf, isHeld, isOwn}
 
 -- the token of which everything is blank
 abbrev pub blank-token : Token
@@ -39,11 +39,11 @@ blank-token =
 
 -- an entry that is a held key
 abbrev pub is-marked : Entry → Bool
-is-marked e = isKey (e .term) && e .marks .held
+is-marked e = isKey (e .term) && isHeld e
 
 unfoldable pub marked-keys : List Entry → List ℕ
 marked-keys [] = []
-marked-keys (e ∷ list) = cond (isKey (e .term) && e .marks .held) (keyOf (e .term) .0 ∷ marked-keys list) (marked-keys list)
+marked-keys (e ∷ list) = cond (isKey (e .term) && isHeld e) (keyOf (e .term) .0 ∷ marked-keys list) (marked-keys list)
 
 -- the list of known keys into a buffer: written over its front where it has room, and not at all where it has none
 abbrev pub listed-as : (fits : Bool) (count : ℕ) → Listed
@@ -70,4 +70,4 @@ origin-of false = Generated
 
 unfoldable pub origin-in : List Entry → (k : ℕ) → Origin
 origin-in [] k = NoKey
-origin-in (e ∷ entries) k = cond (is-key-no k (e .term)) (origin-of (e .marks .own)) (origin-in entries k)
+origin-in (e ∷ entries) k = cond (is-key-no k (e .term)) (origin-of (isOwn e)) (origin-in entries k)

@@ -16,7 +16,7 @@ use Rattle.sheets.specs.Calls.{over}
 use Rattle.sheets.specs.Reports.{records-bytes, report-bytes}
 use Rattle.sheets.proofs.Reports.{report-length}
 use Rattle.shapes.specs.declared.Entry.{Entry}
-use Rattle.shapes.specs.Entries.{isKey}
+use Rattle.shapes.specs.Entries.{isKey, isHeld}
 use Rattle.sheets.proofs.Calls.{over-length}
 use Rattle.writer.proofs.Over.{lent-length, over-lent, copied-next, copied-length, copied-all}
 use Rattle.token.specs.declared.Token.{Token}
@@ -40,7 +40,7 @@ marked-next e entries false k h = omega (arith, h)
 pub marked-few : (entries : List Entry) → length (marked-keys entries) ≤ length entries
 unfolding marked-keys
 marked-few [] = omega arith
-marked-few (e ∷ entries) = marked-next e entries (isKey (e .term) && e .marks .held) _ (marked-few entries)
+marked-few (e ∷ entries) = marked-next e entries (isKey (e .term) && isHeld e) _ (marked-few entries)
 
 -- four bytes
 pub over-counts : (n m : ℕ) (out : List ℕ) → 4 ≤ length out

@@ -1,6 +1,6 @@
 -- What each command comes to on the small values that it sees (a View): the first refusal that applies, in document 01's order,
 -- or the value and what changes. Each list of refusals is that command's part of `refusals` (crates/rules/specs/Refusals.antt);
--- that the two agree where the view is the state's is proved (proofs/Decided.antt). Assumes nothing.
+-- that the two agree where the view is the state's is proved (crates/running/proofs/Decided.antt). Assumes nothing.
 use Prim.Native.Nat.{ℕ, zero, suc}
 use mathlib.Core.Bool.{Bool, true, false, not, _&&_, _||_, cond}
 use mathlib.Core.List.{List, [], _∷_}

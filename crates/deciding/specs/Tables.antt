@@ -1,5 +1,5 @@
--- What the constant tables of the code state, by number: the flag bytes granted, the flag needed on a command's first handle, the
--- length of a body. Assumes nothing.
+-- What the constant tables of the code state, by number: the flag bytes granted, and the flag needed on a command's first handle.
+-- Assumes nothing.
 use Prim.Native.Nat.{ℕ, zero, suc, _/_, _%_}
 use mathlib.Core.Bool.{Bool, not}
 use lib.Dec.{eqb}

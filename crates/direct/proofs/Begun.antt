@@ -1,4 +1,4 @@
--- A fresh token may be called under any policy at all: what a program has to know that is told the policy. Rests on token's Going.
+-- A fresh token may be called under any policy at all: what a program has to know that is told the policy. Rests on running's Going.
 use Prim.Native.Nat.{ℕ, zero, suc}
 use native.Mathlib.Omega.{arith}
 use Rattle.rules.specs.Templates.{plain, stp, stp+}

@@ -1,6 +1,7 @@
 -- Four words that show the live handles of a state: they are the only words that do, their lowest bit not set is the number that
 -- a new handle takes, and their ones are as many as the live handles. Rests on the laws of digits and of bits.
 use Prim.Native.Nat.{ℕ, zero, suc, _+_, _*_, _/_, _%_, _≤_, _<_}
+use native.Mathlib.Decide.{ℕ-discrete}
 use native.Mathlib.Omega.{arith}
 use mathlib.Core.Path.{_≡_, refl, sym, ap, _∙_}
 use mathlib.Core.Bool.{Bool, true, false, cond}
@@ -12,7 +13,7 @@ use borrow.Author.Tests.{eqb-true, eqb-false}
 use Rattle.rules.specs.State.{Now, Slot, dead, live, slot, is-live, most-handles, count-live, new-handle, all-live}
 use Rattle.rules.proofs.NewHandle.{new-handle-dead, below-new-handle, new-handle-below, all-live-each}
 use Rattle.shapes.specs.declared.Free.the-variants.{At, Full}
-use Rattle.handles.specs.Live.{bit, Words, free-in, count-below, count-in}
+use Rattle.handles.specs.Live.{bit, Words, BitSet, free-in, count-below, count-in}
 use Rattle.handles.proofs.LiveWordsDigits.{digit-small, digit-of-zero, digits-unique}
 use Rattle.handles.proofs.LiveWordsBits.{bit-at, first-of, full-of}
 
@@ -34,6 +35,14 @@ words-unique {v} {w} p q same =
         digits-unique 64 (getD v i 0) (getD w i 0) (p .fit i l) (q .fit i l)
         (λ j k. same-digit _ _ (digit-small (getD v i 0) j) (digit-small (getD w i 0) j)
         (sym (bit-at v i j k) ∙ same (i * 64 + j) (omega arith) ∙ bit-at w i j k))
+
+-- two results of setting one bit are equal
+pub set-unique : {words v w : List ℕ} {h : ℕ} {to : Bool} → BitSet words h to v → BitSet words h to w → v ≡ w
+set-unique {words} {v} {w} {h} {to} p q = words-unique (p .words-again) (q .words-again) (λ i l. same i l (ℕ-discrete i h))
+  where
+    same : (i : ℕ) → i < most-handles → Dec (i ≡ h) → bit v i ≡ bit w i
+    same i l (yes e) = ap (bit v) e ∙ p .bit-set ∙ sym (ap (bit w) e ∙ q .bit-set)
+    same i l (no ne) = p .others i l ne ∙ sym (q .others i l ne)
 
 -- each of four words of 0 is 0, and so is what is read past them
 blank-word : (i : ℕ) → _≡_ {A = ℕ} (getD (replicate 4 0) i 0) 0

@@ -1,7 +1,7 @@
 -- Writing the known keys over the front of a buffer, two bytes each, entry by entry. Rests on ApiKnown.
 use Prim.Native.Nat.{ℕ, suc, _+_, _*_, _/_, _%_, _≤_, _<_}
 use mathlib.Core.Path.{_≡_, refl, sym, _∙_, ap}
-use mathlib.Core.Bool.{true, false}
+use mathlib.Core.Bool.{Bool, true, false, cond}
 use mathlib.Core.List.{List, _∷_, _++_, append-assoc}
 use native.Mathlib.Omega.{arith}
 use native.Mathlib.Numerals.{add-one}
@@ -12,12 +12,13 @@ use borrow.Author.Tests.{le-leb, lt-leb}
 use Rattle.rules.specs.State.{most-terms}
 use Rattle.sheets.specs.Bytes.{two}
 use Rattle.sheets.specs.Reports.{keys-bytes}
-use Rattle.sheets.specs.Calls.{over}
+use Rattle.sheets.specs.Calls.{answer-number, over}
 use Rattle.shapes.specs.declared.Entry.{Entry}
+use Rattle.token.specs.declared.Listed.{Listed}
 use Rattle.token.specs.declared.Listed.the-variants.{Keys, Short}
 use Rattle.token.specs.Shows.{blank-entry}
 use Rattle.shapes.specs.Entries.{keyOf}
-use Rattle.token.specs.Known.{is-marked, marked-keys, ListedInto}
+use Rattle.token.specs.Known.{is-marked, marked-keys, listed-as, listed-number, ListedInto}
 use Rattle.token.proofs.ApiKnown.{next-marked, next-other, none-left}
 
 -- writing keys over a buffer from place `at` on is writing the first key there, and the others two places on
@@ -101,3 +102,18 @@ module _ (keys before : List ℕ) (count : ℕ) (counts : count ≡ length keys)
   listed-whole h after w =
       let e : leb (2 * length keys) (length before) ≡ true = le-leb (2 * length keys) (length before) (omega arith) in
       record { answered = rw (e, counts); written = rw e w }
+
+-- two results that meet what is said of the list are equal, answer and buffer
+pub listed-unique : {keys before after after′ : List ℕ} {r r′ : Listed} → ListedInto keys before after r
+    → ListedInto keys before after′ r′ → (r ≡ r′) × (after ≡ after′)
+listed-unique p q = (p .answered ∙ sym (q .answered), p .written ∙ sym (q .written))
+
+-- its number: 0 with how many keys there are, or 13
+pub listed-says : {keys before after : List ℕ} {r : Listed} → ListedInto keys before after r
+    → listed-number r ≡ cond (leb (2 * length keys) (length before)) (answer-number 0 (length keys)) (answer-number 13 0)
+listed-says {keys} {before} p =
+    ap listed-number (p .answered) ∙ each (leb (2 * length keys) (length before))
+  where
+    each : (fits : Bool) → listed-number (listed-as fits (length keys)) ≡ cond fits (answer-number 0 (length keys)) (answer-number 13 0)
+    each true = refl
+    each false = refl

@@ -8,7 +8,7 @@ use lib.Dec.{eqb, leb}
 use lib.ListN.{length, replicate}
 use Rattle.rules.specs.State.{most-handles, most-terms}
 use Rattle.sheets.specs.Reports.{keys-bytes}
-use Rattle.sheets.specs.Calls.{over}
+use Rattle.sheets.specs.Calls.{answer-number, over}
 use Rattle.shapes.specs.declared.Term.{Term as Kind}
 use Rattle.shapes.specs.declared.Term.the-variants.{Data, Key, Seal}
 use Rattle.shapes.specs.declared.Entry.{Entry}
@@ -53,6 +53,11 @@ listed-as false count = Short
 abbrev pub written-as : (fits : Bool) (keys buffer : List ℕ) → List ℕ
 written-as true keys buffer = over (keys-bytes keys) buffer
 written-as false keys buffer = buffer
+
+-- this paper's number for each case: 0 with how many keys there are, 13 for a buffer that is too short
+abbrev pub listed-number : Listed → ℕ
+listed-number (Keys count) = answer-number 0 count
+listed-number Short = answer-number 13 0
 
 pub record ListedInto (keys before after : List ℕ) (r : Listed) : Type 0 where
   pub answered : r ≡ listed-as (leb (2 * length keys) (length before)) (length keys)

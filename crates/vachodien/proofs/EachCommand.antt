@@ -1,5 +1,5 @@
 -- Each command of a run, with its answer and the states before and after it: all that holds of a step holds of every command that a
--- report speaks of. Rests on the token's Going.
+-- report speaks of. Rests on running's Going.
 use Prim.Native.Nat.{ℕ, zero, suc}
 use native.Mathlib.Omega.{arith}
 use mathlib.Core.Path.{_≡_, refl, subst}

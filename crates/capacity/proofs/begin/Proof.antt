@@ -1,4 +1,4 @@
--- `capacity::begin` meets its contract: a fresh token comes from a fresh one by no calls. Rests on token's Going.
+-- `capacity::begin` meets its contract: a fresh token comes from a fresh one by no calls. Rests on running's Going.
 use mathlib.Core.Path.{sym, subst}
 use borrow.Author.Needs.{needs}
 use Rattle.rules.specs.Templates.{plain}

@@ -1,5 +1,5 @@
 -- `capacity::repeat` meets its contract. The loop's invariant: the token comes from a fresh one by earlier calls, and `i` is at most
--- `times`. The measure is the calls that are left. Rests on token's Going.
+-- `times`. The measure is the calls that are left. Rests on running's Going.
 use Prim.Native.Nat.{_≤_, _-_}
 use native.Mathlib.Omega.{arith}
 use borrow.Author.Needs.{needs}

@@ -1,6 +1,6 @@
 -- `sequence` meets its contract. The loop's invariant: the token comes from a fresh one by earlier calls under the policy, and a call
 -- that is read takes two bytes of the input at least for the three that it writes, so that these have room. The measure is the
--- calls that are left. Rests on Begun (through `begin`) and on token's Going.
+-- calls that are left. Rests on Begun (through `begin`) and on running's Going.
 use Prim.Native.Nat.{ℕ, _+_, _*_, _≤_}
 use mathlib.Core.Path.{_≡_}
 use native.Mathlib.Omega.{arith}

@@ -59,6 +59,11 @@ extern "C" {
  * Runs a sheet on a fresh token and writes its report: n and m, two bytes each and big-endian as all numbers; n records of three
  * bytes (answer, two-byte value), one for each command; then the numbers of the m keys that the caller can work out, two bytes
  * each, ascending. Low number for 0: the report's length, 4 + 3 n + 2 m. Bytes of the buffer past it stay as they were.
+ *
+ * The answer in a record: 0, the command is done, and its value is the number of the handle or term that the token answers. Any other is
+ * a refusal, with value 0: 2 the flag byte holds 128; 3 a handle named is not live; 4 a term named does not exist; 5 the policy does
+ * not grant the flag byte; 6 a flag needed is missing; 7 a term named is not held; 8 the wrong kind of term; 9 STP+ encrypts no key;
+ * 10 no handle is free; 11 no room for a new term.
  */
 uint32_t vachodien_report(const uint8_t *sheet, size_t sheet_length, uint8_t *report, size_t report_length);
 

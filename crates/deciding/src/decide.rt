@@ -306,6 +306,8 @@ fn seal(k: Lookup, t: Lookup, number: TermNo, equal: Equal, terms: u16) -> Decis
 pub fn decide(policy: u8, command: Command, view: View) -> Decision
     ensures { λ r. ⌜ r ≡ decided policy command view ⌝ }
 {
+    let a = view.a;
+    let t = view.t;
     let terms = view.terms;
     match command {
         Command::Generate(flags) => {
@@ -313,40 +315,24 @@ pub fn decide(policy: u8, command: Command, view: View) -> Decision
             generate(policy, flags, free, terms)
         }
         Command::Wrap(g, h) => {
-            let a = view.a;
             let b = view.b;
             let equal = view.equal;
             wrap(a, b, view.outer, view.inner, equal, terms)
         }
         Command::Unwrap(h, n, flags) => {
-            let a = view.a;
-            let t = view.t;
             let free = view.free;
             unwrap(policy, a, t, flags, view.payload, free)
         }
         Command::Encrypt(h, n) => {
-            let a = view.a;
-            let t = view.t;
             let equal = view.equal;
             encrypt(policy, a, t, n, equal, terms)
         }
-        Command::Decrypt(h, n) => {
-            let a = view.a;
-            let t = view.t;
-            decrypt(a, t, view.payload)
-        }
-        Command::Corrupt(h) => {
-            let a = view.a;
-            corrupt(a, view.outer)
-        }
-        Command::Destroy(h) => {
-            let a = view.a;
-            destroy(a, h)
-        }
+        Command::Decrypt(h, n) => decrypt(a, t, view.payload),
+        Command::Corrupt(h) => corrupt(a, view.outer),
+        Command::Destroy(h) => destroy(a, h),
         Command::OwnKey => own_key(terms),
         Command::OwnData => own_data(terms),
         Command::Seal(k, n) => {
-            let t = view.t;
             let u = view.u;
             let equal = view.equal;
             seal(t, u, n, equal, terms)

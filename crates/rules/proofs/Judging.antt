@@ -31,11 +31,11 @@ module _ {s : State} (i : Sound s) where
   pub covers : Covers (s .past .own) (s .past .given) (s .now .table)
   covers =
       record {
-        payload-in = λ h. parts-in (i .shape) h .1;
-        items-given = i .items-given;
-        seals-given = i .seals-given;
-        own-in = λ h. i .given-in (i .own-given h);
-        given-in = i .given-in;
+        payload-in = λ h. parts-in (i .counted .shape) h .1;
+        items-given = i .passed .items-given;
+        seals-given = i .passed .seals-given;
+        own-in = λ h. i .passed .given-in (i .passed .own-given h);
+        given-in = i .passed .given-in;
       }
 
   -- a key that the caller can work out is reached by following
@@ -48,9 +48,9 @@ module _ {s : State} (i : Sound s) where
 
   -- a key reached is in the table
   pub reached-in-table : {k : ℕ} → Reached (s .past .own) (s .past .given) (s .now .table) k → key k ∈ s .now .table
-  reached-in-table (own-key h) = ⊎-elim (λ t. t) (λ d. absurd (no-data d)) (i .given-in (i .own-given h))
-  reached-in-table (given-key h) = ⊎-elim (λ t. t) (λ d. absurd (no-data d)) (i .given-in h)
-  reached-in-table (under-key h r) = parts-in (i .shape) h .1
+  reached-in-table (own-key h) = ⊎-elim (λ t. t) (λ d. absurd (no-data d)) (i .passed .given-in (i .passed .own-given h))
+  reached-in-table (given-key h) = ⊎-elim (λ t. t) (λ d. absurd (no-data d)) (i .passed .given-in h)
+  reached-in-table (under-key h r) = parts-in (i .counted .shape) h .1
 
   -- a key that the caller can work out is in the table
   pub known-in-table : {k : ℕ} → Known s k → key k ∈ s .now .table

@@ -64,7 +64,7 @@ fresh-order i j a b x y less = absurd (let z : _≡_ {A = ℕ} 0 1 = cc in omega
 -- a new key has the highest number
 new-above : {s : State} → Sound s → Above (s .now .table) (key (new-key (s .now)))
 unfolding new-key
-new-above {s} i a k h q = let e : k ≡ length (s .now .origins) = cc in omega (arith, i .keys-counted h)
+new-above {s} i a k h q = let e : k ≡ length (s .now .origins) = cc in omega (arith, i .counted .keys-counted h)
 
 order-kept : (p : Policy) → KeptBeside p Sound TableInOrder
 unfolding after all-of all-changes changes giving answers change-now change-past
@@ -74,7 +74,7 @@ order-kept p s (UNWRAP h t f) held j d i order = order
 order-kept p s (ENCRYPT h t) held j d i order = order-enter _ _ (inr (no-key-seal _ _ _)) order
 order-kept p s (DECRYPT h t) held j d i order =
     let e = decrypts-named d in
-    order-enter _ _ (inl (parts-in (i .shape) (rw (e .sealed) at (e .the-term .in-table)) .1)) order
+    order-enter _ _ (inl (parts-in (i .counted .shape) (rw (e .sealed) at (e .the-term .in-table)) .1)) order
 order-kept p s (CORRUPT h) held j d i order = order-enter _ _ (inl (live-in i (corrupts-named d))) order
 order-kept p s (DESTROY h) held j d i order = order
 order-kept p s OWN-KEY held j d i order = order-enter _ _ (inr (new-above i)) order

@@ -14,9 +14,9 @@ use Rattle.rules.proofs.Roles.{known-compromised, reachable-roles}
 
 -- under every policy, the caller can work out every compromised key
 pub compromised-known : {s : State} {k : ℕ} → Sound s → IsCompromised s k → Known s k
-compromised-known i (was-corrupted h) = held-given (i .corrupted-given h)
+compromised-known i (was-corrupted h) = held-given (i .passed .corrupted-given h)
 compromised-known i (is-own h) = held-own h
-compromised-known i (was-wrapped w c) = held-open (held-given (i .seals-given (i .wrap-sealed w))) (compromised-known i c)
+compromised-known i (was-wrapped w c) = held-open (held-given (i .passed .seals-given (i .passed .wrap-sealed w))) (compromised-known i c)
 
 -- where wrapping and decrypting are kept apart, the caller can work out exactly the compromised keys
 pub known-is-compromised : {p : Policy} {s : State} {k : ℕ} → Separates p → Reachable p s → Known s k ↔ IsCompromised s k

@@ -109,6 +109,6 @@ known-of-is {s} i =
     let b = below (new-key (s .now)) (reached (s .past .own) (s .past .given) (s .now .table)) in
     record {
       ascending = b .in-order;
-      each = λ {k} h. b .all-there k (i .keys-counted (known-in-table i h)) (is-in-true k _ (key-decided (covers i) k .1 h));
+      each = λ {k} h. b .all-there k (i .counted .keys-counted (known-in-table i h)) (is-in-true k _ (key-decided (covers i) k .1 h));
       no-other = λ {k} h. key-decided (covers i) k .0 (in-is-in (b .all-in k h));
     }

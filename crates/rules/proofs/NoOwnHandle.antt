@@ -34,7 +34,7 @@ TillCorrupted s = s .past .corrupted ≡ [] → AllGenerated (s .now .handles) (
 
 -- no key is both the caller's own and generated
 not-both : {s : State} {kind : ℕ → Bool} {k : ℕ} → Sound s → key k ∈ s .past .own → BornWith kind (s .past .births) k → ⊥
-not-both i o b = let z : _≡_ {A = ℕ} 0 1 = cc (i .own-origin o, i .birth-origin (b .is-born)) in omega arith
+not-both i o b = let z : _≡_ {A = ℕ} 0 1 = cc (i .births .own-origin o, i .births .birth-origin (b .is-born)) in omega arith
 
 -- with nothing corrupted, only the caller's own keys are compromised: the outer key of a done WRAP was generated
 compromised-own : {s : State} {k : ℕ} → SoundRoles stp+ s → s .past .corrupted ≡ [] → IsCompromised s k → key k ∈ s .past .own
@@ -52,7 +52,7 @@ unwrapped-generated {s} {t = t} (i, r) none all d =
     let sealed = subst (λ m. m ∈ s .now .table) (n .sealed-key) (n .the-term .in-table) in
     ⊎-elim (λ w. all .inner-keys w)
     (λ c. absurd (not-both i (compromised-own (i, r) none c) (all .handles-on _ (n .handle .in-handles) refl)))
-    (sealing-key-explained (r .explained _ (i .seals-given sealed)))
+    (sealing-key-explained (r .explained _ (i .passed .seals-given sealed)))
 
 till-corrupted-fresh : TillCorrupted fresh
 unfolding fresh

@@ -48,11 +48,11 @@ module _ {p : Policy} {s : State} (i : Sound s) (r : Roles p s) where
 
   -- each key sealed directly in the table was wrapped so, or is compromised
   pub sealed-compromised : {j k : ℕ} → seal k (key j) ∈ s .now .table → ((j under k) ∈ s .past .wraps) ⊎ IsCompromised s j
-  sealed-compromised h = sealed-key-explained (r .explained _ (i .seals-given h))
+  sealed-compromised h = sealed-key-explained (r .explained _ (i .passed .seals-given h))
 
   -- every key that the caller can work out is compromised
   pub known-compromised : {k : ℕ} → Known s k → IsCompromised s k
-  known-compromised known = reached-compromised (r .explained) (λ j k h. i .seals-given h) (known-reached i known)
+  known-compromised known = reached-compromised (r .explained) (λ j k h. i .passed .seals-given h) (known-reached i known)
 
   module _ {held : ℕ → Bool} (judges : Judge s held) where
     -- a term that a done command names is explained
@@ -62,7 +62,7 @@ module _ {p : Policy} {s : State} (i : Sound s) (r : Roles p s) where
         go : (m : Term) → m ∈ s .now .table → Held (s .past .own) (s .past .given) m → IsExplained p s m
         go (item n) h known = an-item
         go (key k) h known = a-key (known-compromised known)
-        go (seal k m) h known = r .explained _ (i .seals-given h)
+        go (seal k m) h known = r .explained _ (i .passed .seals-given h)
 
     -- the seal of an ENCRYPT is explained: a policy that encrypts no keys has refused a key
     encrypted-explained : {h k t : ℕ} → Done p held (s .now) (ENCRYPT h t) → IsExplained p s (seal k (term-at (s .now) t))
@@ -91,7 +91,7 @@ module _ {p : Policy} {s : State} (i : Sound s) (r : Roles p s) where
         open-up h decrypts (a-wrap w) =
             let born-W = r .rights .outer-wraps w in
             let born-D = r .rights .decrypting _ h decrypts in
-            let same-byte = i .one-birth (born-D .is-born) (born-W .is-born) in
+            let same-byte = i .births .one-birth (born-D .is-born) (born-W .is-born) in
             absurd (r .rights .one-right (born-W .is-born) (born-W .is-of-kind) (rw same-byte at (born-D .is-of-kind)))
 
 roles-fresh : {p : Policy} → Roles p fresh

@@ -3,6 +3,7 @@
 use Prim.Native.Nat.{ℕ, _<_}
 use mathlib.Core.Path.{_≡_}
 use mathlib.Core.Logic.{_⊎_}
+use mathlib.Core.List.{List}
 use mathlib.Core.Option.{Option, some}
 use lib.ListN.{getElem?, length}
 use Rattle.terms.specs.Lists.{_∈_}
@@ -23,19 +24,35 @@ pub record Shape (table : Table) : Type 0 where
   pub key-earlier : {i k : ℕ} {m : Term} → getElem? table i ≡ some (seal k m) → Earlier table i (key k)
   pub payload-earlier : {i k : ℕ} {m : Term} → getElem? table i ≡ some (seal k m) → Earlier table i m
 
+-- the terms of the table are in order, and its keys and items are those that were counted
+pub record Counted (table : Table) (origins : List Origin) (items : ℕ) : Type 0 where
+  pub shape : Shape table
+  pub keys-counted : {k : ℕ} → key k ∈ table → k < length origins
+  pub counted-keys : {k : ℕ} → k < length origins → key k ∈ table
+  pub items-counted : {n : ℕ} → item n ∈ table → n < items
+
+-- there are 256 handle numbers, and a live one stands for a key of the table
+pub record Handled (handles : List Slot) (table : Table) : Type 0 where
+  pub slots : length handles ≡ most-handles
+  pub live-key : {k f : ℕ} → live k f ∈ handles → key k ∈ table
+
+-- what the caller was given, and what was done
+pub record Passed (table : Table) (owned given : List Term) (corrupted : List ℕ) (wraps : List Link) : Type 0 where
+  pub items-given : {n : ℕ} → item n ∈ table → item n ∈ given
+  pub seals-given : {k : ℕ} {m : Term} → seal k m ∈ table → seal k m ∈ given
+  pub own-given : {m : Term} → m ∈ owned → m ∈ given
+  pub given-in : {m : Term} → m ∈ given → (m ∈ table) ⊎ DataInside m
+  pub corrupted-given : {k : ℕ} → k ∈ corrupted → key k ∈ given
+  pub wrap-sealed : {j k : ℕ} → (j under k) ∈ wraps → seal k (key j) ∈ table
+
+-- whose a key is, and the one flag byte that it was generated with
+pub record Births (owned : List Term) (births : List Birth) (origins : List Origin) : Type 0 where
+  pub own-origin : {k : ℕ} → key k ∈ owned → getElem? origins k ≡ some own
+  pub birth-origin : {k f : ℕ} → (k born f) ∈ births → getElem? origins k ≡ some generated
+  pub one-birth : {k f g : ℕ} → (k born f) ∈ births → (k born g) ∈ births → f ≡ g
+
 pub record Sound (s : State) : Type 0 where
-  pub shape : Shape (s .now .table)
-  pub slots : length (s .now .handles) ≡ most-handles
-  pub keys-counted : {k : ℕ} → key k ∈ s .now .table → k < length (s .now .origins)
-  pub counted-keys : {k : ℕ} → k < length (s .now .origins) → key k ∈ s .now .table
-  pub items-counted : {n : ℕ} → item n ∈ s .now .table → n < s .now .items
-  pub live-key : {k f : ℕ} → live k f ∈ s .now .handles → key k ∈ s .now .table
-  pub items-given : {n : ℕ} → item n ∈ s .now .table → item n ∈ s .past .given
-  pub seals-given : {k : ℕ} {m : Term} → seal k m ∈ s .now .table → seal k m ∈ s .past .given
-  pub own-given : {m : Term} → m ∈ s .past .own → m ∈ s .past .given
-  pub given-in : {m : Term} → m ∈ s .past .given → (m ∈ s .now .table) ⊎ DataInside m
-  pub corrupted-given : {k : ℕ} → k ∈ s .past .corrupted → key k ∈ s .past .given
-  pub wrap-sealed : {j k : ℕ} → (j under k) ∈ s .past .wraps → seal k (key j) ∈ s .now .table
-  pub own-origin : {k : ℕ} → key k ∈ s .past .own → getElem? (s .now .origins) k ≡ some own
-  pub birth-origin : {k f : ℕ} → (k born f) ∈ s .past .births → getElem? (s .now .origins) k ≡ some generated
-  pub one-birth : {k f g : ℕ} → (k born f) ∈ s .past .births → (k born g) ∈ s .past .births → f ≡ g
+  pub counted : Counted (s .now .table) (s .now .origins) (s .now .items)
+  pub handled : Handled (s .now .handles) (s .now .table)
+  pub passed : Passed (s .now .table) (s .past .own) (s .past .given) (s .past .corrupted) (s .past .wraps)
+  pub births : Births (s .past .own) (s .past .births) (s .now .origins)

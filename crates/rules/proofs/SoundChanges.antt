@@ -54,23 +54,15 @@ module _ {s : State} (i : Sound s) where
   unfolding change-now change-past
   sound-binds h x fits =
       record {
-        shape = i .shape;
-        slots = length-set (s .now .handles) h x ∙ i .slots;
-        keys-counted = i .keys-counted;
-        counted-keys = i .counted-keys;
-        items-counted = i .items-counted;
-        live-key =
-            λ {k} {f} m. ⊎-elim (λ (e : live k f ≡ x). subst (SlotFits (s .now .table)) (sym e) fits) (λ l. i .live-key l)
-            (in-set (s .now .handles) h x m);
-        items-given = i .items-given;
-        seals-given = i .seals-given;
-        own-given = i .own-given;
-        given-in = i .given-in;
-        corrupted-given = i .corrupted-given;
-        wrap-sealed = i .wrap-sealed;
-        own-origin = i .own-origin;
-        birth-origin = i .birth-origin;
-        one-birth = i .one-birth;
+        counted = i .counted;
+        handled =
+            record {
+              slots = length-set (s .now .handles) h x ∙ i .handled .slots;
+              live-key = λ {k} {f} m. ⊎-elim (λ (e : live k f ≡ x). subst (SlotFits (s .now .table)) (sym e) fits) (λ l. i .handled .live-key l)
+                  (in-set (s .now .handles) h x m);
+            };
+        passed = i .passed;
+        births = i .births;
       }
 
   -- a term is entered and given
@@ -79,23 +71,29 @@ module _ {s : State} (i : Sound s) where
   unfolding change-now change-past
   sound-answers m may =
       record {
-        shape = shape-enter table m (answer-parts table (s .now .items) m may) (i .shape);
-        slots = i .slots;
-        keys-counted = λ h. i .keys-counted (⊎-elim (λ o. o) (λ e. was e) (enter-cases table m h));
-        counted-keys = λ h. in-enter table m (i .counted-keys h);
-        items-counted =
-            λ {n} h. ⊎-elim (λ o. i .items-counted o)
-            (λ (e : item n ≡ m). subst (MayAnswer table (s .now .items)) (sym e) may) (enter-cases table m h);
-        live-key = λ h. in-enter table m (i .live-key h);
-        items-given = λ h. ⊎-elim (λ o. List·Memᴰ·tail (i .items-given o)) List·Memᴰ·head (enter-cases table m h);
-        seals-given = λ h. ⊎-elim (λ o. List·Memᴰ·tail (i .seals-given o)) List·Memᴰ·head (enter-cases table m h);
-        own-given = λ h. List·Memᴰ·tail (i .own-given h);
-        given-in = λ h. ⊎-elim (λ e. inl (Memᴰ·cast e (enter-in table m))) (λ o. more (i .given-in o)) (List·Memᴰ·cases-cons h);
-        corrupted-given = λ h. List·Memᴰ·tail (i .corrupted-given h);
-        wrap-sealed = λ h. in-enter table m (i .wrap-sealed h);
-        own-origin = i .own-origin;
-        birth-origin = i .birth-origin;
-        one-birth = i .one-birth;
+        counted =
+            record {
+              shape = shape-enter table m (answer-parts table (s .now .items) m may) (i .counted .shape);
+              keys-counted = λ h. i .counted .keys-counted (⊎-elim (λ o. o) (λ e. was e) (enter-cases table m h));
+              counted-keys = λ h. in-enter table m (i .counted .counted-keys h);
+              items-counted = λ {n} h. ⊎-elim (λ o. i .counted .items-counted o)
+                  (λ (e : item n ≡ m). subst (MayAnswer table (s .now .items)) (sym e) may) (enter-cases table m h);
+            };
+        handled =
+            record {
+              slots = i .handled .slots;
+              live-key = λ h. in-enter table m (i .handled .live-key h);
+            };
+        passed =
+            record {
+              items-given = λ h. ⊎-elim (λ o. List·Memᴰ·tail (i .passed .items-given o)) List·Memᴰ·head (enter-cases table m h);
+              seals-given = λ h. ⊎-elim (λ o. List·Memᴰ·tail (i .passed .seals-given o)) List·Memᴰ·head (enter-cases table m h);
+              own-given = λ h. List·Memᴰ·tail (i .passed .own-given h);
+              given-in = λ h. ⊎-elim (λ e. inl (Memᴰ·cast e (enter-in table m))) (λ o. more (i .passed .given-in o)) (List·Memᴰ·cases-cons h);
+              corrupted-given = λ h. List·Memᴰ·tail (i .passed .corrupted-given h);
+              wrap-sealed = λ h. in-enter table m (i .passed .wrap-sealed h);
+            };
+        births = i .births;
       }
     where
       table : Table
@@ -112,27 +110,37 @@ module _ {s : State} (i : Sound s) where
   unfolding change-now change-past new-key
   sound-key o =
       record {
-        shape = shape-enter table new tt (i .shape);
-        slots = i .slots;
-        keys-counted =
-            λ {k} h.
-            ⊎-elim (λ t. below-more (i .keys-counted t)) (λ (e : key k ≡ new). let q : k ≡ keys = cc in omega (arith, one-more))
-            (enter-cases table new h);
-        counted-keys =
-            λ {k} h.
-            ⊎-elim (λ (e : k ≡ keys). rw e (enter-in table new)) (λ l. in-enter table new (i .counted-keys l))
-            (eq-or-lt-of-le {n = k} {m = keys} (omega (arith, one-more)));
-        items-counted = λ h. i .items-counted (was item-not-key h);
-        live-key = λ h. in-enter table new (i .live-key h);
-        items-given = λ h. i .items-given (was item-not-key h);
-        seals-given = λ h. i .seals-given (was seal-not-key h);
-        own-given = i .own-given;
-        given-in = λ h. ⊎-elim (λ t. inl (in-enter table new t)) inr (i .given-in h);
-        corrupted-given = i .corrupted-given;
-        wrap-sealed = λ h. in-enter table new (i .wrap-sealed h);
-        own-origin = λ {k} h. at-append (s .now .origins) (o ∷ []) k (i .own-origin h);
-        birth-origin = λ {k} h. at-append (s .now .origins) (o ∷ []) k (i .birth-origin h);
-        one-birth = i .one-birth;
+        counted =
+            record {
+              shape = shape-enter table new tt (i .counted .shape);
+              keys-counted = λ {k} h.
+                  ⊎-elim (λ t. below-more (i .counted .keys-counted t)) (λ (e : key k ≡ new). let q : k ≡ keys = cc in omega (arith, one-more))
+                  (enter-cases table new h);
+              counted-keys = λ {k} h.
+                  ⊎-elim (λ (e : k ≡ keys). rw e (enter-in table new)) (λ l. in-enter table new (i .counted .counted-keys l))
+                  (eq-or-lt-of-le {n = k} {m = keys} (omega (arith, one-more)));
+              items-counted = λ h. i .counted .items-counted (was item-not-key h);
+            };
+        handled =
+            record {
+              slots = i .handled .slots;
+              live-key = λ h. in-enter table new (i .handled .live-key h);
+            };
+        passed =
+            record {
+              items-given = λ h. i .passed .items-given (was item-not-key h);
+              seals-given = λ h. i .passed .seals-given (was seal-not-key h);
+              own-given = i .passed .own-given;
+              given-in = λ h. ⊎-elim (λ t. inl (in-enter table new t)) inr (i .passed .given-in h);
+              corrupted-given = i .passed .corrupted-given;
+              wrap-sealed = λ h. in-enter table new (i .passed .wrap-sealed h);
+            };
+        births =
+            record {
+              own-origin = λ {k} h. at-append (s .now .origins) (o ∷ []) k (i .births .own-origin h);
+              birth-origin = λ {k} h. at-append (s .now .origins) (o ∷ []) k (i .births .birth-origin h);
+              one-birth = i .births .one-birth;
+            };
       }
     where
       table : Table
@@ -158,21 +166,16 @@ module _ {s : State} (i : Sound s) where
   unfolding change-now change-past
   sound-item =
       record {
-        shape = i .shape;
-        slots = i .slots;
-        keys-counted = i .keys-counted;
-        counted-keys = i .counted-keys;
-        items-counted = λ {n} h. let l : n < s .now .items = i .items-counted h in omega arith;
-        live-key = i .live-key;
-        items-given = i .items-given;
-        seals-given = i .seals-given;
-        own-given = i .own-given;
-        given-in = i .given-in;
-        corrupted-given = i .corrupted-given;
-        wrap-sealed = i .wrap-sealed;
-        own-origin = i .own-origin;
-        birth-origin = i .birth-origin;
-        one-birth = i .one-birth;
+        counted =
+            record {
+              shape = i .counted .shape;
+              keys-counted = i .counted .keys-counted;
+              counted-keys = i .counted .counted-keys;
+              items-counted = λ {n} h. let l : n < s .now .items = i .counted .items-counted h in omega arith;
+            };
+        handled = i .handled;
+        passed = i .passed;
+        births = i .births;
       }
 
   -- a term of the table is given
@@ -180,21 +183,18 @@ module _ {s : State} (i : Sound s) where
   unfolding change-now change-past
   sound-gives m there =
       record {
-        shape = i .shape;
-        slots = i .slots;
-        keys-counted = i .keys-counted;
-        counted-keys = i .counted-keys;
-        items-counted = i .items-counted;
-        live-key = i .live-key;
-        items-given = λ h. List·Memᴰ·tail (i .items-given h);
-        seals-given = λ h. List·Memᴰ·tail (i .seals-given h);
-        own-given = λ h. List·Memᴰ·tail (i .own-given h);
-        given-in = λ h. ⊎-elim (λ e. inl (Memᴰ·cast e there)) (λ g. i .given-in g) (List·Memᴰ·cases-cons h);
-        corrupted-given = λ h. List·Memᴰ·tail (i .corrupted-given h);
-        wrap-sealed = i .wrap-sealed;
-        own-origin = i .own-origin;
-        birth-origin = i .birth-origin;
-        one-birth = i .one-birth;
+        counted = i .counted;
+        handled = i .handled;
+        passed =
+            record {
+              items-given = λ h. List·Memᴰ·tail (i .passed .items-given h);
+              seals-given = λ h. List·Memᴰ·tail (i .passed .seals-given h);
+              own-given = λ h. List·Memᴰ·tail (i .passed .own-given h);
+              given-in = λ h. ⊎-elim (λ e. inl (Memᴰ·cast e there)) (λ g. i .passed .given-in g) (List·Memᴰ·cases-cons h);
+              corrupted-given = λ h. List·Memᴰ·tail (i .passed .corrupted-given h);
+              wrap-sealed = i .passed .wrap-sealed;
+            };
+        births = i .births;
       }
 
   -- a term that was given is the caller's own: an item, or a key of that origin
@@ -203,21 +203,23 @@ module _ {s : State} (i : Sound s) where
   unfolding change-now change-past
   sound-owns m was-given origin =
       record {
-        shape = i .shape;
-        slots = i .slots;
-        keys-counted = i .keys-counted;
-        counted-keys = i .counted-keys;
-        items-counted = i .items-counted;
-        live-key = i .live-key;
-        items-given = i .items-given;
-        seals-given = i .seals-given;
-        own-given = λ h. ⊎-elim (λ e. Memᴰ·cast e was-given) (λ o. i .own-given o) (List·Memᴰ·cases-cons h);
-        given-in = i .given-in;
-        corrupted-given = i .corrupted-given;
-        wrap-sealed = i .wrap-sealed;
-        own-origin = λ {k} h. ⊎-elim (origin k) (λ o. i .own-origin o) (List·Memᴰ·cases-cons h);
-        birth-origin = i .birth-origin;
-        one-birth = i .one-birth;
+        counted = i .counted;
+        handled = i .handled;
+        passed =
+            record {
+              items-given = i .passed .items-given;
+              seals-given = i .passed .seals-given;
+              own-given = λ h. ⊎-elim (λ e. Memᴰ·cast e was-given) (λ o. i .passed .own-given o) (List·Memᴰ·cases-cons h);
+              given-in = i .passed .given-in;
+              corrupted-given = i .passed .corrupted-given;
+              wrap-sealed = i .passed .wrap-sealed;
+            };
+        births =
+            record {
+              own-origin = λ {k} h. ⊎-elim (origin k) (λ o. i .births .own-origin o) (List·Memᴰ·cases-cons h);
+              birth-origin = i .births .birth-origin;
+              one-birth = i .births .one-birth;
+            };
       }
 
   -- a key that was given is corrupted
@@ -225,21 +227,18 @@ module _ {s : State} (i : Sound s) where
   unfolding change-now change-past
   sound-corrupts k was-given =
       record {
-        shape = i .shape;
-        slots = i .slots;
-        keys-counted = i .keys-counted;
-        counted-keys = i .counted-keys;
-        items-counted = i .items-counted;
-        live-key = i .live-key;
-        items-given = i .items-given;
-        seals-given = i .seals-given;
-        own-given = i .own-given;
-        given-in = i .given-in;
-        corrupted-given = λ h. ⊎-elim (λ e. Memᴰ·cast (ap key e) was-given) (λ o. i .corrupted-given o) (List·Memᴰ·cases-cons h);
-        wrap-sealed = i .wrap-sealed;
-        own-origin = i .own-origin;
-        birth-origin = i .birth-origin;
-        one-birth = i .one-birth;
+        counted = i .counted;
+        handled = i .handled;
+        passed =
+            record {
+              items-given = i .passed .items-given;
+              seals-given = i .passed .seals-given;
+              own-given = i .passed .own-given;
+              given-in = i .passed .given-in;
+              corrupted-given = λ h. ⊎-elim (λ e. Memᴰ·cast (ap key e) was-given) (λ o. i .passed .corrupted-given o) (List·Memᴰ·cases-cons h);
+              wrap-sealed = i .passed .wrap-sealed;
+            };
+        births = i .births;
       }
 
   -- a WRAP is done, and its seal is in the table
@@ -247,23 +246,19 @@ module _ {s : State} (i : Sound s) where
   unfolding change-now change-past
   sound-wraps j k there =
       record {
-        shape = i .shape;
-        slots = i .slots;
-        keys-counted = i .keys-counted;
-        counted-keys = i .counted-keys;
-        items-counted = i .items-counted;
-        live-key = i .live-key;
-        items-given = i .items-given;
-        seals-given = i .seals-given;
-        own-given = i .own-given;
-        given-in = i .given-in;
-        corrupted-given = i .corrupted-given;
-        wrap-sealed =
-            λ {j = j′} {k = k′} h. ⊎-elim (λ (e : j′ under k′ ≡ j under k). Memᴰ·cast {a = seal k′ (key j′)} (cc) there)
-            (λ o. i .wrap-sealed o) (List·Memᴰ·cases-cons h);
-        own-origin = i .own-origin;
-        birth-origin = i .birth-origin;
-        one-birth = i .one-birth;
+        counted = i .counted;
+        handled = i .handled;
+        passed =
+            record {
+              items-given = i .passed .items-given;
+              seals-given = i .passed .seals-given;
+              own-given = i .passed .own-given;
+              given-in = i .passed .given-in;
+              corrupted-given = i .passed .corrupted-given;
+              wrap-sealed = λ {j = j′} {k = k′} h. ⊎-elim (λ (e : j′ under k′ ≡ j under k). Memᴰ·cast {a = seal k′ (key j′)} (cc) there)
+                  (λ o. i .passed .wrap-sealed o) (List·Memᴰ·cases-cons h);
+            };
+        births = i .births;
       }
 
   -- a key is generated with a flag byte, for the first time
@@ -272,23 +267,16 @@ module _ {s : State} (i : Sound s) where
   unfolding change-now change-past
   sound-bears k f origin first =
       record {
-        shape = i .shape;
-        slots = i .slots;
-        keys-counted = i .keys-counted;
-        counted-keys = i .counted-keys;
-        items-counted = i .items-counted;
-        live-key = i .live-key;
-        items-given = i .items-given;
-        seals-given = i .seals-given;
-        own-given = i .own-given;
-        given-in = i .given-in;
-        corrupted-given = i .corrupted-given;
-        wrap-sealed = i .wrap-sealed;
-        own-origin = i .own-origin;
-        birth-origin =
-            λ {k = j} {f = g} h. ⊎-elim (λ (e : j born g ≡ k born f). let q : j ≡ k = cc in rw q origin) (λ o. i .birth-origin o)
-            (List·Memᴰ·cases-cons h);
-        one-birth = λ {k = j} {f = g} {g = g′} a b. one j g g′ (List·Memᴰ·cases-cons a) (List·Memᴰ·cases-cons b);
+        counted = i .counted;
+        handled = i .handled;
+        passed = i .passed;
+        births =
+            record {
+              own-origin = i .births .own-origin;
+              birth-origin = λ {k = j} {f = g} h. ⊎-elim (λ (e : j born g ≡ k born f). let q : j ≡ k = cc in rw q origin) (λ o. i .births .birth-origin o)
+                  (List·Memᴰ·cases-cons h);
+              one-birth = λ {k = j} {f = g} {g = g′} a b. one j g g′ (List·Memᴰ·cases-cons a) (List·Memᴰ·cases-cons b);
+            };
       }
     where
       one : (j g g′ : ℕ) → (j born g ≡ k born f) ⊎ ((j born g) ∈ s .past .births) →
@@ -296,4 +284,4 @@ module _ {s : State} (i : Sound s) where
       one j g g′ (inl e) (inl e′) = cc
       one j g g′ (inl e) (inr o) = let q : k ≡ j = cc in absurd (first g′ (rw q o))
       one j g g′ (inr o) (inl e) = let q : k ≡ j = cc in absurd (first g (rw q o))
-      one j g g′ (inr o) (inr o′) = i .one-birth o o′
+      one j g g′ (inr o) (inr o′) = i .births .one-birth o o′

@@ -41,26 +41,33 @@ pub sound-fresh : Sound fresh
 unfolding fresh
 sound-fresh =
     record {
-      shape =
+      counted =
           record {
-            once = λ {i} a b. nowhere i a;
-            key-earlier = λ {i} a. nowhere i a;
-            payload-earlier = λ {i} a. nowhere i a;
+            shape =
+                record {
+                  once = λ {i} a b. nowhere i a;
+                  key-earlier = λ {i} a. nowhere i a;
+                  payload-earlier = λ {i} a. nowhere i a;
+                };
+            keys-counted = none-in;
+            counted-keys = λ h. absurd (omega arith);
+            items-counted = none-in;
           };
-      slots = length-replicate most-handles dead;
-      keys-counted = none-in;
-      counted-keys = λ h. absurd (omega arith);
-      items-counted = none-in;
-      live-key = λ {k} {f} h. absurd (no-live k f (in-replicate most-handles h));
-      items-given = none-in;
-      seals-given = none-in;
-      own-given = none-in;
-      given-in = none-in;
-      corrupted-given = none-in;
-      wrap-sealed = none-in;
-      own-origin = none-in;
-      birth-origin = none-in;
-      one-birth = none-in;
+      handled =
+          record {
+            slots = length-replicate most-handles dead;
+            live-key = λ {k} {f} h. absurd (no-live k f (in-replicate most-handles h));
+          };
+      passed =
+          record {
+            items-given = none-in;
+            seals-given = none-in;
+            own-given = none-in;
+            given-in = none-in;
+            corrupted-given = none-in;
+            wrap-sealed = none-in;
+          };
+      births = record { own-origin = none-in; birth-origin = none-in; one-birth = none-in };
     }
   where
     none-in : {A C : Type 0} {x : A} → x ∈ [] → C
@@ -73,22 +80,22 @@ module _ {s : State} (i : Sound s) where
   -- the key of a live handle is in the table
   pub live-in : {h : ℕ} → Live (s .now) h → key (key-of (slot (s .now) h)) ∈ s .now .table
   unfolding key-of
-  live-in l = rw (l .is-slot) (i .live-key (l .in-handles))
+  live-in l = rw (l .is-slot) (i .handled .live-key (l .in-handles))
 
   -- a term of the table may be answered
   in-answers : (m : Term) → m ∈ s .now .table → MayAnswer (s .now .table) (s .now .items) m
-  in-answers (item n) h = i .items-counted h
+  in-answers (item n) h = i .counted .items-counted h
   in-answers (key k) h = h
-  in-answers (seal k m) h = parts-in (i .shape) h
+  in-answers (seal k m) h = parts-in (i .counted .shape) h
 
   -- the payload of a seal of the table is in the table
   payload-in : {m p : Term} {k : ℕ} → m ≡ seal k p → m ∈ s .now .table → p ∈ s .now .table
-  payload-in e h = parts-in (i .shape) (rw e at h) .1
+  payload-in e h = parts-in (i .counted .shape) (rw e at h) .1
 
   -- a new key has not been generated before
   never-born : (g : ℕ) → ¬ ((new-key (s .now) born g) ∈ s .past .births)
   unfolding new-key
-  never-born g h = omega (arith, at-below (s .now .origins) (length (s .now .origins)) (i .birth-origin h))
+  never-born g h = omega (arith, at-below (s .now .origins) (length (s .now .origins)) (i .births .birth-origin h))
 
 -- a new key has the origin that it is counted with
 new-origin : (now : Now) (o : Origin) (k : ℕ) → k ≡ new-key now → getElem? (now .origins ++ o ∷ []) k ≡ some o

@@ -76,7 +76,7 @@ module _ {p : Policy} {s : State} {held : ℕ → Bool} (i : Sound s) (j : Judge
       let e = decrypts-named d in
       gift-works i (sound-kept p s (DECRYPT h n) held j d i) shows
       (record { entered = refl; same-origins = refl; same-handles = refl; same-own = refl; given-more = refl })
-      (parts-in (i .shape) (subst (λ (m : Term). m ∈ s .now .table) (e .sealed) (e .the-term .in-table)) .1)
+      (parts-in (i .counted .shape) (subst (λ (m : Term). m ∈ s .now .table) (e .sealed) (e .the-term .in-table)) .1)
 
   -- CORRUPT gives a key
   corrupt-works : (h : ℕ) → Done p held (s .now) (CORRUPT h) → Works t (after s (CORRUPT h)) (change-for s (CORRUPT h))
@@ -93,7 +93,7 @@ module _ {p : Policy} {s : State} {held : ℕ → Bool} (i : Sound s) (j : Judge
   unwrap-works h n f d =
       let u = unwraps-named d in
       let i′ = sound-kept p s (UNWRAP h n f) held j d i in
-      let inside = new-handle-below (s .now) (i .slots) (u .handle-free) in
+      let inside = new-handle-below (s .now) (i .handled .slots) (u .handle-free) in
       let same-slot : payload (term-at (s .now) n) ≡ key (key-number (payload (term-at (s .now) n))) =
       ap payload (u .sealed-key) in
       record {
@@ -169,7 +169,7 @@ module _ {p : Policy} {s : State} {held : ℕ → Bool} (i : Sound s) (j : Judge
       let i′ = sound-kept p s (GENERATE f) held j d i in
       let makes = generate-makes f i in
       let few = room-for d (key (new-key (s .now))) (List·Memᴰ·tail (List·Memᴰ·head refl)) (not-listed i makes) in
-      let inside = new-handle-below (s .now) (i .slots) (generates d .handle-free) in
+      let inside = new-handle-below (s .now) (i .handled .slots) (generates d .handle-free) in
       let number : t .table .terms ≡ number-of (after s (GENERATE f) .now .table) (key (new-key (s .now))) =
       shows .terms-shown ∙ sym (number-new (s .now .table) (key (new-key (s .now))) (not-listed i makes))
       ∙ ap (λ (l : List Term). number-of l (key (new-key (s .now)))) (sym (made-table i makes)) in

@@ -50,7 +50,7 @@ live-below {s} {h} i l =
     bool-cases (ltb h most-handles) (λ e. ltb-true h most-handles e)
     (λ e.
     let past : most-handles ≤ h = ltb-false h most-handles e in
-    let is-dead : getD (s .now .handles) h dead ≡ dead = List·getD-eq-default (s .now .handles) dead (omega (arith, i .slots)) in
+    let is-dead : getD (s .now .handles) h dead ≡ dead = List·getD-eq-default (s .now .handles) dead (omega (arith, i .handled .slots)) in
     let is-alive : getD (s .now .handles) h dead ≡ live (l .key-no) (l .flags-no) = l .is-slot in
     let z : _≡_ {A = ℕ} 0 1 = cc in absurd (omega arith))
 
@@ -90,7 +90,7 @@ no-seal-item n k x e = let z : _≡_ {A = ℕ} 0 1 = cc in omega arith
 -- the key made next is not in the table
 key-new : {s : State} → Sound s → ¬ (key (new-key (s .now)) ∈ s .now .table)
 unfolding new-key
-key-new i h = omega (arith, i .keys-counted h)
+key-new i h = omega (arith, i .counted .keys-counted h)
 
 -- GENERATE makes a key
 pub generate-makes : {s : State} (f : ℕ) → Sound s → Makes s (after s (GENERATE f)) (key (new-key (s .now)))
@@ -112,6 +112,6 @@ own-data-makes i =
       entered = refl;
       own-adds = adds-first;
       given-adds = adds-first;
-      is-new = λ h. omega (arith, i .items-counted h);
+      is-new = λ h. omega (arith, i .counted .items-counted h);
       no-seal = no-seal-item _;
     }

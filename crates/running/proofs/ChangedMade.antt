@@ -72,7 +72,7 @@ module _ {s s′ : State} {m : Term} (i : Sound s) (makes : Makes s s′ m) wher
         own-within = λ k h. ⊎-elim inl (λ o. inr (own-key o)) (makes .own-adds .at-most (key k) h);
         given-within = λ k h. ⊎-elim inl (λ o. inr (given-key o)) (makes .given-adds .at-most (key k) h);
         seals-within = λ j k h r.
-            ⊎-elim (λ e. absurd (makes .no-seal k (key j) (sym e))) (λ o. inr (under-key o (was k (parts-in (i .shape) o .0) r)))
+            ⊎-elim (λ e. absurd (makes .no-seal k (key j) (sym e))) (λ o. inr (under-key o (was k (parts-in (i .counted .shape) o .0) r)))
             (table-adds .at-most (seal k (key j)) h);
       })
     where

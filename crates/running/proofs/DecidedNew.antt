@@ -29,11 +29,11 @@ module _ {s : State} (sound : Sound s) where
   next-key : listed (s .now .table) (key (new-key (s .now))) ≡ false
   unfolding new-key
   next-key =
-      not-listed (s .now .table) _ (λ h. let l = sound .keys-counted h in omega arith)
+      not-listed (s .now .table) _ (λ h. let l = sound .counted .keys-counted h in omega arith)
 
   next-item : listed (s .now .table) (item (s .now .items)) ≡ false
   next-item =
-      not-listed (s .now .table) _ (λ h. let l = sound .items-counted h in omega arith)
+      not-listed (s .now .table) _ (λ h. let l = sound .counted .items-counted h in omega arith)
 
 -- a term that is not in the table needs room
 new-room-asked : (now : Now) (m : Term) (more : Bool) → listed (now .table) m ≡ false →

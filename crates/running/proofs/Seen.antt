@@ -84,7 +84,7 @@ hand-in (x ∷ slots) (suc h) e = List·Memᴰ·tail (hand-in slots h e)
 key-in : {s : State} (sound : Sound s) (x : Hand) → is-live x ≡ true → x ∈ s .now .handles → key (key-of x) ∈ s .now .table
 unfolding is-live key-of
 key-in sound dead e h = absurd (false≢true e)
-key-in sound (live k f) e h = sound .live-key h
+key-in sound (live k f) e h = sound .handled .live-key h
 
 pub live-key-in : {s : State} (sound : Sound s) (h : ℕ) → is-live (slot (s .now) h) ≡ true →
     key (key-of (slot (s .now) h)) ∈ s .now .table
@@ -115,7 +115,7 @@ module _ {s : State} (sound : Sound s) where
 
   pub term-number : (n : ℕ) → is-term (s .now) n ≡ true → number-of (s .now .table) (term-at (s .now) n) ≡ n
   term-number n e =
-      sound .shape .once {i = number-of (s .now .table) (term-at (s .now) n)} (number-at (term-in n e)) (term-there n e)
+      sound .counted .shape .once {i = number-of (s .now .table) (term-at (s .now) n)} (number-at (term-in n e)) (term-there n e)
 
   -- the payload of a seal is in the table
   payload-at : (n k : ℕ) (x : Option Term) → getElem? (s .now .table) n ≡ x → sealed-under k (or-item x) ≡ true →
@@ -125,7 +125,7 @@ module _ {s : State} (sound : Sound s) where
   payload-at n k (some (item i)) at e = absurd (false≢true e)
   payload-at n k (some (key j)) at e = absurd (false≢true e)
   payload-at n k (some (seal j m)) at e =
-      let earlier = sound .shape .payload-earlier {i = n} at in
+      let earlier = sound .counted .shape .payload-earlier {i = n} at in
       at-in (s .now .table) (earlier .place) (earlier .is-there)
 
   pub payload-in : (k n : ℕ) → sealed-under k (term-at (s .now) n) ≡ true → payload (term-at (s .now) n) ∈ s .now .table

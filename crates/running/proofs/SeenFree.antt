@@ -20,7 +20,7 @@ free-for now = cond (all-live now) Full (At (record { 0 = new-handle now }))
 pub free-seen : {t : Token} {s : State} → Sound s → Shows t s → free-in (t .hands .live) ≡ free-for (s .now)
 unfolding free-for
 free-seen {t} {s} sound shows =
-    let shown = free-shown (t .hands .live) (s .now) (shows .hands-shown .live-shown) (sound .slots) in
+    let shown = free-shown (t .hands .live) (s .now) (shows .hands-shown .live-shown) (sound .handled .slots) in
     bool-cases (all-live (s .now)) (λ (e : all-live (s .now) ≡ true). rw e (shown .0 e))
     (λ (e : all-live (s .now) ≡ false). rw e (shown .1 e))
 

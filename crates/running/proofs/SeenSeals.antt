@@ -42,7 +42,7 @@ module _ {t : Token} {s : State} (sound : Sound s) (shows : Shows t s) where
   seal-at i k (some (item n)) h at e = absurd (omega arith)
   seal-at i k (some (key n)) h at e = absurd (omega arith)
   seal-at i k {m} (some (seal j m′)) h at e =
-      let earlier = sound .shape .payload-earlier {i = i} at in
+      let earlier = sound .counted .shape .payload-earlier {i = i} at in
       let h′ : m′ ∈ s .now .table = at-in (s .now .table) (earlier .place) (earlier .is-there) in
       let room = shows .room in
       let parts : (j ≡ k) × (number-of (s .now .table) m′ ≡ number-of (s .now .table) m) =
@@ -71,4 +71,4 @@ module _ {t : Token} {s : State} (sound : Sound s) (shows : Shows t s) where
           let room = shows .room in
           let fits : number-of (s .now .table) (seal k m) < most-terms = omega (arith, number-below there) in
           equal-found _ _ _ fits (code-at _ fits (number-at there))
-          (λ j l q. sound .shape .once {i = j} (seal-of j l q) (number-at there))
+          (λ j l q. sound .counted .shape .once {i = j} (seal-of j l q) (number-at there))

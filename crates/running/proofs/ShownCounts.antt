@@ -41,8 +41,8 @@ keys-fit (suc n) l each =
 
 -- there are no more keys than terms
 pub few-keys : {s : State} → Sound s → length (s .now .origins) ≤ length (s .now .table)
-few-keys {s} i = keys-fit (length (s .now .origins)) (s .now .table) (λ k h. i .counted-keys h)
+few-keys {s} i = keys-fit (length (s .now .origins)) (s .now .table) (λ k h. i .counted .counted-keys h)
 
 -- a key of the table has a number below the count of terms
 pub key-below : {s : State} {k : ℕ} → Sound s → key k ∈ s .now .table → k < length (s .now .table)
-key-below i h = omega (arith, few-keys i, i .keys-counted h)
+key-below i h = omega (arith, few-keys i, i .counted .keys-counted h)

@@ -46,7 +46,7 @@ module _ {s s′ : State} (sound : Sound s′) (room : length (s′ .now .table)
       let r : SealRead (s′ .now .table) (getElem? (s′ .now .table) i) k q =
       seal-read (s′ .now .table) _ k q (sym (shown .terms .kinds i) ∙ e) in
       let there : seal (k .0) (r .inside) ∈ s′ .now .table = at-in (s′ .now .table) i (r .is-seal) in
-      let parts = parts-in (sound .shape) there in
+      let parts = parts-in (sound .counted .shape) there in
       let number : number-of (s′ .now .table) (r .inside) < length (s′ .now .table) =
       at-below (s′ .now .table) (number-of (s′ .now .table) (r .inside)) (number-at (parts .1)) in
       (omega (arith, key-below sound (parts .0)), omega (arith, r .its-number))

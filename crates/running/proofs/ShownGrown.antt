@@ -36,7 +36,7 @@ module _ {s s′ : State} (i : Sound s) (i′ : Sound s′) (grows : Grows (s .n
   pub number-kept : {m : Term} → m ∈ s .now .table → number-of (s′ .now .table) m ≡ number-of (s .now .table) m
   number-kept {m} h =
       let old = grows .table-more (number-of (s .now .table) m) m (number-at h) in
-      i′ .shape .once (number-at (at-in (s′ .now .table) (number-of (s .now .table) m) old)) old
+      i′ .counted .shape .once (number-at (at-in (s′ .now .table) (number-of (s .now .table) m) old)) old
 
   -- and the kind of its entry
   kind-kept : (n : ℕ) (x : Option Term) → getElem? (s .now .table) n ≡ x →
@@ -47,7 +47,7 @@ module _ {s s′ : State} (i : Sound s) (i′ : Sound s′) (grows : Grows (s .n
   kind-kept n (some (key k)) e = refl
   kind-kept n (some (seal k m)) e =
       ap (λ (p : ℕ). Seal (record { 0 = k }) (record { 0 = p }))
-      (sym (number-kept (parts-in (i .shape) (at-in (s .now .table) n e) .1)))
+      (sym (number-kept (parts-in (i .counted .shape) (at-in (s .now .table) n e) .1)))
 
   -- a key of the table keeps its origin
   own-kept : (n : ℕ) (x : Option Term) → getElem? (s .now .table) n ≡ x →
@@ -56,7 +56,7 @@ module _ {s s′ : State} (i : Sound s) (i′ : Sound s′) (grows : Grows (s .n
   own-kept n none e = refl
   own-kept n (some (item m)) e = refl
   own-kept n (some (key k)) e =
-      let a = below-at (s .now .origins) k (i .keys-counted (at-in (s .now .table) n e)) in
+      let a = below-at (s .now .origins) k (i .counted .keys-counted (at-in (s .now .table) n e)) in
       ap is-own (a .1 ∙ sym (grows .origins-more k (a .0) (a .1)))
   own-kept n (some (seal k m)) e = refl
 
@@ -76,7 +76,7 @@ module _ {s s′ : State} (i : Sound s) (i′ : Sound s′) (grows : Grows (s .n
   slot-kept dead there = refl
   slot-kept (live k f) there =
       ap (λ (n : ℕ). record { key = record { 0 = k }; term = record { 0 = n }; flags = f })
-      (sym (number-kept (i .live-key (there k f refl))))
+      (sym (number-kept (i .handled .live-key (there k f refl))))
 
 -- a term is held in both states, where its mark is the same
 held-kept : (s s′ : State) (terms : Table) → ((k : ℕ) → key k ∈ terms → mark s k ≡ mark s′ k) → (n : ℕ) (x : Option Term) →

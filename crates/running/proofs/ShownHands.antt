@@ -59,7 +59,7 @@ module _ {s s′ : State} (i : Sound s) (i′ : Sound s′) (grows : Grows (s .n
       }
     where
       here : slot (s′ .now) h ≡ x
-      here = ap (λ (l : List Handle). getD l h dead) same ∙ getD-set-same (s .now .handles) h x dead (omega (arith, i .slots))
+      here = ap (λ (l : List Handle). getD l h dead) same ∙ getD-set-same (s .now .handles) h x dead (omega (arith, i .handled .slots))
 
       other : (j : ℕ) → ¬ (j ≡ h) → slot (s′ .now) j ≡ slot (s .now) j
       other j d = ap (λ (l : List Handle). getD l j dead) same ∙ getD-set-other (s .now .handles) h j x dead d

@@ -80,7 +80,7 @@ module _ {s s′ : State} (sound : Sound s′) (room : length (s′ .now .table)
       let there : seal (x .outer .0) (r .inside) ∈ s′ .now .table = at-in (s′ .now .table) (x .seal-no) (r .is-seal) in
       let at-o : getElem? (s′ .now .table) o ≡ some (r .inside) =
       subst (λ (n : ℕ). getElem? (s′ .now .table) n ≡ some (r .inside)) (r .its-number)
-      (number-at (parts-in (sound .shape) there .1)) in
+      (number-at (parts-in (sound .counted .shape) there .1)) in
       let key-o : getElem? (s′ .now .table) o ≡ some (key (x .inner .0)) = key-at o (x .inner) (x .inner-kind) in
       let same : r .inside ≡ key (x .inner .0) = cc in
       subst (λ (m : Term). seal (x .outer .0) m ∈ s′ .now .table) same there
@@ -99,7 +99,7 @@ module _ {s s′ : State} (sound : Sound s′) (room : length (s′ .now .table)
         outer-kind = terms .kinds q ∙ ap (kind-for (s′ .now .table)) at-q;
         seal-kind = terms .kinds (a .0) ∙ ap (kind-for (s′ .now .table)) (a .1)
             ∙ ap (λ (n : ℕ). Seal (record { 0 = k }) (record { 0 = n }))
-            (sound .shape .once (number-at (at-in (s′ .now .table) o at-o)) at-o);
+            (sound .counted .shape .once (number-at (at-in (s′ .now .table) o at-o)) at-o);
         inner-kind = terms .kinds o ∙ ap (kind-for (s′ .now .table)) at-o;
       }
 
@@ -116,7 +116,7 @@ module _ {s s′ : State} (sound : Sound s′) (room : length (s′ .now .table)
       let outer-reached = marked-reached s (x .outer .0) (sym (mark-at q _ at-q) ∙ h) in
       ⊎-elim (λ r. inl (mark-at o _ at-o ∙ reached-marked s r))
       (λ (e : x .inner .0 ≡ leak .leaked).
-      inr (sound .shape .once at-o (leak .leaked-at ∙ ap (λ (n : ℕ). some (key n)) (sym e))))
+      inr (sound .counted .shape .once at-o (leak .leaked-at ∙ ap (λ (n : ℕ). some (key n)) (sym e))))
       (leak .seals-old (x .inner .0) (x .outer .0) (opened-seal x) outer-reached)
 
   -- what the leak leads to is reached in the next state
@@ -145,7 +145,7 @@ module _ {s s′ : State} (sound : Sound s′) (room : length (s′ .now .table)
         reached-within {P = λ k. (q : ℕ) → getElem? (s′ .now .table) q ≡ some (key k) → held-at result q ≡ true} (record {
           own-within = λ k h q e. old q k e (leak .own-old k h);
           given-within = λ k h q e. old-or q k e (leak .given-old k h);
-          seals-within = λ j k h held q e. opened q j k h e held (in-at (parts-in (sound .shape) h .0));
+          seals-within = λ j k h held q e. opened q j k h e held (in-at (parts-in (sound .counted .shape) h .0));
         })
       where
         old : (q k : ℕ) → getElem? (s′ .now .table) q ≡ some (key k) → Reaches s k → held-at result q ≡ true
@@ -158,7 +158,7 @@ module _ {s s′ : State} (sound : Sound s′) (room : length (s′ .now .table)
             held-at result q ≡ true
         old-or q k e (inl r) = old q k e r
         old-or q k e (inr same) =
-            the-one q (sound .shape .once e (leak .leaked-at ∙ ap (λ (n : ℕ). some (key n)) (sym same)))
+            the-one q (sound .counted .shape .once e (leak .leaked-at ∙ ap (λ (n : ℕ). some (key n)) (sym same)))
 
         further : (q a : ℕ) → Opens entries a q → (held-at entries a ≡ true) ⊎ Leak entries p a → held-at result q ≡ true
         further q a x (inl h) = ⊎-elim (λ held. followed .still-held q held) (λ same. the-one q same) (leak-closed a q h x)

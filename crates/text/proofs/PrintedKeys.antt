@@ -58,7 +58,7 @@ module _ {t : Token} {s : State} (sound : Sound s) (shown : Shows t s) where
   unfolding Told entry-of entry-for
   told i k e =
       let there = key-at shown i k e in
-      let (o, at) = below-at (s .now .origins) k (sound .keys-counted (at-in (s .now .table) i there)) in
+      let (o, at) = below-at (s .now .origins) k (sound .counted .keys-counted (at-in (s .now .table) i there)) in
       let mark : isOwn (getD (t .table .entries) i blank-entry) ≡ is-own (getElem? (s .now .origins) k) =
       ap (λ (x : Entry). isOwn x) (shown .entries-shown i (key-inside shown i k e)) ∙ rw there refl in
       ap own-word (mark ∙ ap is-own at) ∙ same-word o ∙ sym (ap origin-word at)

@@ -69,7 +69,7 @@ module _ {t : Token} {s : State} (sound : Sound s) (shown : Shows t s) where
       → origin-in (t .table .entries) k ≡ origin-of (is-own (getElem? (s .now .origins) k))
   unfolding entry-of entry-for AllMarked
   origin-shown k created =
-      let (i, at, low) = in-at (sound .counted-keys created) in
+      let (i, at, low) = in-at (sound .counted .counted-keys created) in
       let is = shown .entries-shown i (omega (arith, low, shown .room)) in
       origin-found (t .table .entries) k (is-own (getElem? (s .now .origins) k))
       (λ j e.
@@ -81,8 +81,8 @@ module _ {t : Token} {s : State} (sound : Sound s) (shown : Shows t s) where
   pub no-origin : (k : ℕ) → length (s .now .origins) ≤ k → origin-in (t .table .entries) k ≡ NoKey
   no-origin k not-created =
       origin-none (t .table .entries) k
-      (λ i e. omega (arith, sound .keys-counted (at-in (s .now .table) i (key-at shown i k e))))
+      (λ i e. omega (arith, sound .counted .keys-counted (at-in (s .now .table) i (key-at shown i k e))))
 
   -- the live count is that of the state's handles
   pub live-count-shown : count-in (t .hands .live) ≡ count-live (s .now .handles)
-  live-count-shown = count-shown (t .hands .live) (s .now) (shown .hands-shown .live-shown) (sound .slots)
+  live-count-shown = count-shown (t .hands .live) (s .now) (shown .hands-shown .live-shown) (sound .handled .slots)

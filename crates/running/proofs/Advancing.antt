@@ -19,6 +19,7 @@ use Rattle.sheets.specs.Reading.{read-commands}
 use Rattle.sheets.proofs.Faultless.{none-faultless}
 use Rattle.sheets.proofs.Walks.{command-at, command-holdable}
 use Rattle.shapes.specs.declared.Command.{Command as Stored}
+use Rattle.deciding.specs.declared.Change.{Change}
 use Rattle.deciding.specs.declared.View.{View}
 use Rattle.deciding.specs.declared.Decision.{Decision}
 use Rattle.shapes.specs.Commands.{commandOf}
@@ -29,7 +30,7 @@ use Rattle.running.specs.Views.{viewOf, Findable}
 use Rattle.running.specs.Applied.{Applicable, Applied}
 use Rattle.running.specs.Direct.{ComesFrom, Reached}
 use Rattle.reader.proofs.GoodEntries.{good-entry}
-use Rattle.running.specs.Advance.{command-of, command-in, record-put, RunAsks, RanBy, Ran}
+use Rattle.running.specs.Advance.{command-of, command-in, record-put, AnsweredBy, RunAsks, RanBy, Ran}
 use Rattle.running.proofs.ShownCounts.{few-keys}
 use Rattle.running.proofs.StepShown.{findable, step-applicable, step-stepped}
 use Rattle.running.proofs.RecordsWritten.{written-next}
@@ -50,6 +51,14 @@ pub record AdvancedTo (policy : ℕ) (s : List ℕ) (n : ℕ) (before : List ℕ
   pub within : i ≤ n
   pub same-length : length records ≡ length before
   pub so-far : Ran start policy s i before records t
+
+-- what was decided is told
+pub decided-told : (policy : ℕ) (command : Stored) {view seen : View} → view ≡ seen → {d : Decision} → d ≡ decided policy command view
+    → {i : ℕ} {before after : List ℕ} → after ≡ record-put before i (d .answer) (d .value)
+    → AnsweredBy (decided policy command seen) i before after (d .change)
+decided-told policy command saw {d} so {i} {before} {after} wrote =
+    subst (λ (x : View). AnsweredBy (decided policy command x) i before after (d .change)) saw
+    (subst (λ (x : Decision). AnsweredBy x i before after (d .change)) so (record { of-change = refl; of-record = wrote }))
 
 -- before the first
 pub advance-begins : {policy : ℕ} {s : List ℕ} {n : ℕ} {before : List ℕ} {start : Token} → RunAsks start policy s n before → Bytes s
@@ -112,58 +121,67 @@ module _ {policy : ℕ} {s : List ℕ} {n : ℕ} {before : List ℕ} {start : To
       let done : i ≡ n = omega (arith, adv .within) in
       subst (λ (k : ℕ). Ran start policy s k before records t) done (adv .so-far)
 
-  -- the next command
-  module _ (more : i < n) {command : Stored} (is : command ≡ command-in s i) {seen : View}
-      (sees : seen ≡ viewOf (t .table) (t .hands) (t .links .codes) command) {d : Decision}
-      (decides-so : d ≡ decided policy command seen) where
-    is-command : command ≡ commandOf (command-at s i)
-    unfolding command-in command-of
-    is-command =
-        is ∙ ap command-of (good-entry s i (adv .asks .good) (omega (arith, more, adv .asks .counted)))
-
-    holdable : Holdable (command-at s i)
-    holdable =
-        let good = none-faultless s .0 (adv .asks .good) in
-        command-holdable s (adv .bytes) (good .header .table-inside) i
-        (good .entries i (omega (arith, more, adv .asks .counted)))
-
-    pub next-applicable : Applicable t (d .change)
-    next-applicable =
-        step-applicable sees decides-so (adv .asks .low) still-reached (command-at s i) holdable is-command
-
+  -- the next command's record has room
+  module _ (more : i < n) where
     room : 3 * i + 3 ≤ length before
     room = omega (arith, more, adv .asks .room)
 
     pub record-room : 3 * i + 3 ≤ length records
     record-room = omega (arith, room, adv .same-length)
 
-    ran-next : {r : Token} → Applied t (d .change) r
-        → Ran start policy s (suc i) before (record-put records i (d .answer) (d .value)) r
-    unfolding read-commands
-    ran-next applied p state comes =
-        let ran = adv .so-far p state comes in
-        let st = step-stepped sees decides-so (adv .asks .low) applied p (ran .end) (command-at s i) (goes-on p state comes) holdable is-command in
-        let a : Answer = record { answer = d .answer; value = d .value } in
-        let counted : length (ran .said) ≡ i = one-answer-each (ran .run) ∙ read-length s i in
-        record {
-          said = ran .said ++ a ∷ [];
-          end = st .next;
-          run = run-append (ran .run) (then (st .step) ends);
-          shows-end = st .shows-next;
-          written = rw (ran .written) (written-next (ran .said) before i (d .answer) (d .value) counted room);
-        }
+    -- the next command, answered
+    module _ {command : Stored} (is : command ≡ command-in s i) {seen : View}
+        (sees : seen ≡ viewOf (t .table) (t .hands) (t .links .codes) command) {after : List ℕ} {change : Change}
+        (told : AnsweredBy (decided policy command seen) i records after change) where
+      is-command : command ≡ commandOf (command-at s i)
+      unfolding command-in command-of
+      is-command =
+          is ∙ ap command-of (good-entry s i (adv .asks .good) (omega (arith, more, adv .asks .counted)))
 
-    -- and the next command's change made, its record written
-    pub advance-on : {after : List ℕ} → after ≡ record-put records i (d .answer) (d .value) → {r : Token} → Applied t (d .change) r
-        → AdvancedTo policy s n before start (i + 1) after r
-    advance-on wrote {r} applied =
-        record {
-          asks = adv .asks;
-          bytes = adv .bytes;
-          within = omega (arith, more);
-          same-length = rw wrote (simp length-set (adv .same-length));
-          so-far =
-              rw wrote
-              (subst (λ (k : ℕ). Ran start policy s k before (record-put records i (d .answer) (d .value)) r) (sym (add-one i))
-              (ran-next applied));
-        }
+      holdable : Holdable (command-at s i)
+      holdable =
+          let good = none-faultless s .0 (adv .asks .good) in
+          command-holdable s (adv .bytes) (good .header .table-inside) i
+          (good .entries i (omega (arith, more, adv .asks .counted)))
+
+      pub next-applicable : Applicable t change
+      next-applicable =
+          subst (Applicable t) (sym (told .of-change))
+          (step-applicable sees refl (adv .asks .low) still-reached (command-at s i) holdable is-command)
+
+      ran-next : {r : Token} → Applied t (decided policy command seen .change) r
+          → Ran start policy s (suc i) before
+          (record-put records i (decided policy command seen .answer) (decided policy command seen .value)) r
+      unfolding read-commands
+      ran-next applied p state comes =
+          let d : Decision = decided policy command seen in
+          let ran = adv .so-far p state comes in
+          let st = step-stepped sees refl (adv .asks .low) applied p (ran .end) (command-at s i) (goes-on p state comes) holdable is-command in
+          let a : Answer = record { answer = d .answer; value = d .value } in
+          let counted : length (ran .said) ≡ i = one-answer-each (ran .run) ∙ read-length s i in
+          record {
+            said = ran .said ++ a ∷ [];
+            end = st .next;
+            run = run-append (ran .run) (then (st .step) ends);
+            shows-end = st .shows-next;
+            written = rw (ran .written) (written-next (ran .said) before i (d .answer) (d .value) counted room);
+          }
+
+      -- and its change made
+      pub advance-on : {r : Token} → Applied t change r → AdvancedTo policy s n before start (i + 1) after r
+      advance-on {r} applied =
+          let so : Applied t (decided policy command seen .change) r =
+          subst (λ (x : Change). Applied t x r) (told .of-change) applied in
+          record {
+            asks = adv .asks;
+            bytes = adv .bytes;
+            within = omega (arith, more);
+            same-length = rw (told .of-record) (simp length-set (adv .same-length));
+            so-far =
+                rw (told .of-record)
+                (subst
+                (λ (k : ℕ).
+                Ran start policy s k before
+                (record-put records i (decided policy command seen .answer) (decided policy command seen .value)) r)
+                (sym (add-one i)) (ran-next so));
+          }

@@ -25,11 +25,11 @@ use Rattle.token.specs.declared.Table.{Table}
 use Rattle.token.specs.declared.Links.{Links}
 use Rattle.token.specs.declared.Hands.{Hands}
 use Rattle.token.specs.declared.Token.{Token}
-use Rattle.token.specs.Shows.{blank-entry, blank-slot, seal-code, bucket}
-use Rattle.running.specs.Stores.{HandPut, SlotStored, entryStored}
-use Rattle.running.specs.Leaks.{Followable}
-use Rattle.shapes.specs.Entries.{keyOf}
-use Rattle.running.specs.Applied.{SlotSet, appended, linked, seal-entry, TableFollowed, SealRoom, Parts, Applied, Applicable}
+use Rattle.token.specs.Shows.{blank-entry, blank-slot}
+use Rattle.running.specs.Stores.{HandPut, SlotStored, entryStored, Linkable, linksStored, leakOf}
+use Rattle.running.specs.declared.Leak.{Leak}
+use Rattle.running.specs.declared.Leak.the-variants.{Of, Nothing as No}
+use Rattle.running.specs.Applied.{SlotSet, appended, linked, seal-entry, TableFollowed, LeakFollowable, SealRoom, Parts, Applied, Applicable}
 
 -- the hands and the table after the stores
 abbrev pub stored-hands : Hands → SlotPut → Hands
@@ -67,17 +67,6 @@ hands-set : (t : Token) {g : ℕ} {s : Slot} {to : Bool} (put : SlotPut) → Han
 hands-set t put e =
     record { slots-set = rw (e .of-number, e .of-slot) refl; live-set = e .of-live }
 
--- a change that appends no seal and leaks nothing
-abbrev pub IsPlain : Change → Type 0
-IsPlain Nothing = Unit {0}
-IsPlain (Bind g s) = Unit {0}
-IsPlain (Release g) = Unit {0}
-IsPlain (NewKey g f) = Unit {0}
-IsPlain OwnKey = Unit {0}
-IsPlain OwnData = Unit {0}
-IsPlain (NewSeal k p leaks) = ⊥
-IsPlain (Know p) = ⊥
-
 -- a number that is none of a list's
 abbrev NoneOf : List ℕ → ℕ → Type 0
 NoneOf [] n = Unit {0}
@@ -87,19 +76,58 @@ not-one : (k : ℕ) (ks : List ℕ) (n : ℕ) → NoneOf (k ∷ ks) n → OneOf 
 not-one k [] n f e = f .0 e
 not-one k (l ∷ ks) n f e = ⊎-elim (f .0) (not-one l ks n (f .1)) e
 
--- by the number of its case: neither of the last two
-pub plain-by-tag : (change : Change)
-    → OneOf (0 ∷ 1 ∷ 2 ∷ 3 ∷ 4 ∷ 5 ∷ 7 ∷ []) (tagOf the-type change)
-    → OneOf (0 ∷ 1 ∷ 2 ∷ 3 ∷ 4 ∷ 5 ∷ 6 ∷ []) (tagOf the-type change)
-    → IsPlain change
-plain-by-tag Nothing a b = tt
-plain-by-tag (Bind n x) a b = tt
-plain-by-tag (Release n) a b = tt
-plain-by-tag (NewKey n f) a b = tt
-plain-by-tag OwnKey a b = tt
-plain-by-tag OwnData a b = tt
-plain-by-tag (NewSeal k p leaks) a b = not-one 0 (1 ∷ 2 ∷ 3 ∷ 4 ∷ 5 ∷ 7 ∷ []) 6 ((λ e. omega (arith, e)), ((λ e. omega (arith, e)), ((λ e. omega (arith, e)), ((λ e. omega (arith, e)), ((λ e. omega (arith, e)), ((λ e. omega (arith, e)), ((λ e. omega (arith, e)), tt))))))) a
-plain-by-tag (Know p) a b = not-one 0 (1 ∷ 2 ∷ 3 ∷ 4 ∷ 5 ∷ 6 ∷ []) 7 ((λ e. omega (arith, e)), ((λ e. omega (arith, e)), ((λ e. omega (arith, e)), ((λ e. omega (arith, e)), ((λ e. omega (arith, e)), ((λ e. omega (arith, e)), ((λ e. omega (arith, e)), tt))))))) b
+-- by the number of its case: no seal is appended, and the links stay as they are
+pub links-kept : (change : Change) → OneOf (0 ∷ 1 ∷ 2 ∷ 3 ∷ 4 ∷ 5 ∷ 7 ∷ []) (tagOf the-type change) → (links : Links) (terms : ℕ)
+    → links ≡ linksStored change links terms
+unfolding linksStored
+links-kept Nothing a links terms = refl
+links-kept (Bind n x) a links terms = refl
+links-kept (Release n) a links terms = refl
+links-kept (NewKey n f) a links terms = refl
+links-kept OwnKey a links terms = refl
+links-kept OwnData a links terms = refl
+links-kept (NewSeal k p leaks) a links terms = absurd (not-one 0 (1 ∷ 2 ∷ 3 ∷ 4 ∷ 5 ∷ 7 ∷ []) 6 ((λ e. omega (arith, e)), ((λ e. omega (arith, e)), ((λ e. omega (arith, e)), ((λ e. omega (arith, e)), ((λ e. omega (arith, e)), ((λ e. omega (arith, e)), ((λ e. omega (arith, e)), tt))))))) a)
+links-kept (Know p) a links terms = refl
+
+-- there is room to link what is appended
+pub linkable : (t : Token) (change : Change) → Applicable t change → Linkable change (t .table .terms)
+linkable t Nothing room = tt
+linkable t (Bind n x) room = tt
+linkable t (Release n) room = tt
+linkable t (NewKey n f) room = tt
+linkable t OwnKey room = tt
+linkable t OwnData room = tt
+linkable t (NewSeal k p leaks) room = (room .for-term .few-terms, room .key-inside)
+linkable t (Know p) room = tt
+
+-- a leak is of one term, or there is none
+abbrev leaking : TermNo → Leak → TermNo
+leaking q (Of p) = p
+leaking q No = q
+
+abbrev leak-count : Leak → ℕ
+leak-count (Of p) = 1
+leak-count No = 0
+
+same-leak : {p q : TermNo} → Of q ≡ Of p → q ≡ p
+same-leak {p} {q} e = ap (leaking q) e
+
+no-leak : {p : TermNo} → No ≡ Of p → ⊥
+no-leak e = let z : _≡_ {A = ℕ} 0 1 = ap leak-count e in omega (arith, z)
+
+-- the leak that can be followed, and the one that is, in other words
+can-follow : {table same : Table} → table ≡ same → {links others : Links} → links ≡ others → {p q : TermNo} → q ≡ p
+    → LeakFollowable true same others (q .0) → LeakFollowable true table links (p .0)
+can-follow {table} {same} e {links} {others} b {p} {q} f room =
+    subst (λ (x : Table). LeakFollowable true x links (p .0)) (sym e)
+    (subst (λ (x : Links). LeakFollowable true same x (p .0)) (sym b)
+    (subst (λ (x : TermNo). LeakFollowable true same others (x .0)) f room))
+
+of-leak : {table same : Table} → table ≡ same → {p q : TermNo} → q ≡ p → {followed : Table} → TableFollowed table (p .0) followed
+    → TableFollowed same (q .0) followed
+of-leak {table} {same} e {p} {q} f {followed} follow =
+    subst (λ (x : Table). TableFollowed x (q .0) followed) e
+    (subst (λ (x : TermNo). TableFollowed table (x .0) followed) (sym f) follow)
 
 -- the entry goes to a place of the table
 pub stored-inside : (t : Token) (at : ℕ) (e : Entry) (grown : EntryPut) (change : Change) → Applicable t change → at < most-terms
@@ -115,38 +143,6 @@ stored-inside t at e grown OwnData room h same = rw same (room .few-terms)
 stored-inside t at e grown (NewSeal k p leaks) room h same = rw same (room .for-term .few-terms)
 stored-inside t at e grown (Know p) room h same = rw same h
 
--- the five stores that put a seal into its chains
-pub linked-by : (links : Links) (i k p : ℕ) {code : ℕ} → code ≡ seal-code k p → {place : ℕ} → place ≡ bucket code
-    → _≡_ {A = Links}
-    (record {
-      newest = set (links .newest) k (i + 1);
-      older = set (links .older) i (getD (links .newest) k 0);
-      heads = set (links .heads) place (i + 1);
-      chain = set (links .chain) i (getD (links .heads) place 0);
-      codes = set (links .codes) i code;
-    })
-    (linked links i k p)
-linked-by links i k p e f = rw (f, e, add-one) refl
-
--- a seal that is appended and linked: its leak can be followed where the room for it was given, and what comes of it is the change
-module _ (t : Token) (k : KeyNo) (p : TermNo) (leaks : Bool) {table : Table} (grown : table ≡ appended (t .table) (seal-entry k p))
-    {links : Links} (bound : links ≡ linked (t .links) (t .table .terms) (k .0) (p .0)) where
-  seal-followable : SealRoom t (k .0) (p .0) leaks → leaks ≡ true → {key : KeyNo}
-      → key ≡ keyOf (getD (table .entries) (p .0) blank-entry .term)
-      → Followable (table .entries) (links .newest) (links .older) (table .terms) (p .0) key
-  seal-followable room leaky of-key = rw (of-key, bound, grown) (rw leaky at (room .followable))
-
-  -- where nothing leaks
-  seal-kept : leaks ≡ false → Applied t (NewSeal k p leaks) (record { table = table; links = links; hands = t .hands })
-  unfolding Applied
-  seal-kept tight = rw tight (record { of-table = grown; of-links = bound; of-hands = refl })
-
-  -- where the payload leaks
-  seal-followed : leaks ≡ true → {followed : Table} → TableFollowed table (p .0) followed
-      → Applied t (NewSeal k p leaks) (record { table = followed; links = links; hands = t .hands })
-  unfolding Applied
-  seal-followed leaky follow = rw leaky (record { of-table = rw grown at follow; of-links = bound; of-hands = refl })
-
 module _ (t : Token) (h : ℕ) {slot : Slot} (read-slot : ReadSlot (t .hands) h slot) (at : ℕ) {e : Entry}
     (read-entry : ReadEntry (t .table) at e) (put : SlotPut) (grown : EntryPut) where
   -- what is known of the two stores
@@ -155,80 +151,64 @@ module _ (t : Token) (h : ℕ) {slot : Slot} (read-slot : ReadSlot (t .hands) h 
       SlotStored change (t .hands .live) h slot (t .table .terms) (t .table .keys) put
       × (grown ≡ entryStored change at e (t .table .terms) (t .table .keys))
 
-  pub plain-applied : (change : Change) → Puts change → IsPlain change
-      → Applied t change (record { table = stored-table (t .table) grown; links = t .links; hands = stored-hands (t .hands) put })
-  unfolding Applied entryStored
-  plain-applied Nothing (s, g) plain = rw (table-back t at read-entry grown g, hands-back t h read-slot put s) refl
-  plain-applied (Bind n x) (s, g) plain =
-      record { of-table = table-back t at read-entry grown g; of-links = refl; of-hands = hands-set t put s }
-  plain-applied (Release n) (s, g) plain =
-      record { of-table = table-back t at read-entry grown g; of-links = refl; of-hands = hands-set t put s }
-  plain-applied (NewKey n f) (s, g) plain =
-      record { of-table = ap (stored-table (t .table)) g; of-links = refl; of-hands = hands-set t put s }
-  plain-applied OwnKey (s, g) plain =
-      record { of-table = ap (stored-table (t .table)) g; of-links = refl; of-hands = hands-back t h read-slot put s }
-  plain-applied OwnData (s, g) plain =
-      record { of-table = ap (stored-table (t .table)) g; of-links = refl; of-hands = hands-back t h read-slot put s }
-  plain-applied (NewSeal k p leaks) (s, g) plain = absurd plain
-  plain-applied (Know p) (s, g) plain = absurd plain
+  -- the change made, where nothing leaks
+  pub stored-applied : (change : Change) → Puts change → {links : Links} → links ≡ linksStored change (t .links) (t .table .terms)
+      → leakOf change ≡ No
+      → Applied t change (record { table = stored-table (t .table) grown; links = links; hands = stored-hands (t .hands) put })
+  unfolding Applied entryStored linksStored leakOf
+  stored-applied Nothing (s, g) bound none = rw (table-back t at read-entry grown g, hands-back t h read-slot put s, bound) refl
+  stored-applied (Bind n x) (s, g) bound none =
+      record { of-table = table-back t at read-entry grown g; of-links = bound; of-hands = hands-set t put s }
+  stored-applied (Release n) (s, g) bound none =
+      record { of-table = table-back t at read-entry grown g; of-links = bound; of-hands = hands-set t put s }
+  stored-applied (NewKey n f) (s, g) bound none =
+      record { of-table = ap (stored-table (t .table)) g; of-links = bound; of-hands = hands-set t put s }
+  stored-applied OwnKey (s, g) bound none =
+      record { of-table = ap (stored-table (t .table)) g; of-links = bound; of-hands = hands-back t h read-slot put s }
+  stored-applied OwnData (s, g) bound none =
+      record { of-table = ap (stored-table (t .table)) g; of-links = bound; of-hands = hands-back t h read-slot put s }
+  stored-applied (NewSeal k p true) (s, g) bound none = absurd (no-leak (sym none))
+  stored-applied (NewSeal k p false) (s, g) bound none =
+      record { of-table = ap (stored-table (t .table)) g; of-links = bound; of-hands = hands-back t h read-slot put s }
+  stored-applied (Know p) (s, g) bound none = absurd (no-leak (sym none))
 
-  -- a key becomes known: both are stored back
-  module _ {change : Change} (puts : Puts change) {p : TermNo} (is : change ≡ Know p) where
-    table-same : stored-table (t .table) grown ≡ t .table
-    unfolding entryStored
-    table-same = table-back t at read-entry grown (subst Puts is puts .1)
+  -- where term p leaks: its leak can be followed, and the change is made by that
+  module _ {p : TermNo} {links : Links} where
+    pub stored-followable : (change : Change) → Puts change → links ≡ linksStored change (t .links) (t .table .terms)
+        → leakOf change ≡ Of p → Applicable t change → LeakFollowable true (stored-table (t .table) grown) links (p .0)
+    unfolding entryStored linksStored leakOf
+    stored-followable Nothing (s, g) bound leak room = absurd (no-leak leak)
+    stored-followable (Bind n x) (s, g) bound leak room = absurd (no-leak leak)
+    stored-followable (Release n) (s, g) bound leak room = absurd (no-leak leak)
+    stored-followable (NewKey n f) (s, g) bound leak room = absurd (no-leak leak)
+    stored-followable OwnKey (s, g) bound leak room = absurd (no-leak leak)
+    stored-followable OwnData (s, g) bound leak room = absurd (no-leak leak)
+    stored-followable (NewSeal k q true) (s, g) bound leak room =
+        can-follow (ap (stored-table (t .table)) g) bound (same-leak leak) (room .followable)
+    stored-followable (NewSeal k q false) (s, g) bound leak room = absurd (no-leak leak)
+    stored-followable (Know q) (s, g) bound leak room =
+        can-follow (table-back t at read-entry grown g) bound (same-leak leak) (room .followable)
 
-    pub know-followable : Applicable t change → {key : KeyNo}
-        → key ≡ keyOf (getD (stored-table (t .table) grown .entries) (p .0) blank-entry .term)
-        → Followable (stored-table (t .table) grown .entries) (t .links .newest) (t .links .older)
-        (stored-table (t .table) grown .terms) (p .0) key
-    know-followable room {key} of-key =
-        subst
-        (λ (x : Table).
-        key ≡ keyOf (getD (x .entries) (p .0) blank-entry .term) →
-        Followable (x .entries) (t .links .newest) (t .links .older) (x .terms) (p .0) key)
-        (sym table-same) (λ e. rw e (subst (Applicable t) is room .followable)) of-key
-
-    pub know-applied : {followed : Table} → TableFollowed (stored-table (t .table) grown) (p .0) followed
-        → Applied t change (record { table = followed; links = t .links; hands = stored-hands (t .hands) put })
-    unfolding Applied
-    know-applied {followed} follow =
-        subst (λ (x : Change). Applied t x (record { table = followed; links = t .links; hands = stored-hands (t .hands) put })) (sym is)
-        (record {
-          of-table = subst (λ (x : Table). TableFollowed x (p .0) followed) table-same follow;
-          of-links = refl;
-          of-hands = hands-back t h read-slot put (subst Puts is puts .0);
-        })
-
-  -- a seal is appended and linked, and the slot stored back
-  module _ {change : Change} (puts : Puts change) {k : KeyNo} {p : TermNo} {leaks : Bool} (is : change ≡ NewSeal k p leaks) {links : Links}
-      (bound : links ≡ linked (t .links) (t .table .terms) (k .0) (p .0)) where
-    table-grown : stored-table (t .table) grown ≡ appended (t .table) (seal-entry k p)
-    unfolding entryStored
-    table-grown = ap (stored-table (t .table)) (subst Puts is puts .1)
-
-    same-hands : stored-hands (t .hands) put ≡ t .hands
-    same-hands = hands-back t h read-slot put (subst Puts is puts .0)
-
-    -- the change applied, where it is applied to the hands as they were
-    with-hands : (table : Table) → Applied t (NewSeal k p leaks) (record { table = table; links = links; hands = t .hands })
-        → Applied t change (record { table = table; links = links; hands = stored-hands (t .hands) put })
-    with-hands table applied =
-        subst (λ (x : Change). Applied t x (record { table = table; links = links; hands = stored-hands (t .hands) put })) (sym is)
-        (subst (λ (x : Hands). Applied t (NewSeal k p leaks) (record { table = table; links = links; hands = x })) (sym same-hands) applied)
-
-    pub new-seal-followable : Applicable t change → leaks ≡ true → {key : KeyNo}
-        → key ≡ keyOf (getD (stored-table (t .table) grown .entries) (p .0) blank-entry .term)
-        → Followable (stored-table (t .table) grown .entries) (links .newest) (links .older)
-        (stored-table (t .table) grown .terms) (p .0) key
-    new-seal-followable room leaky of-key = seal-followable t k p leaks table-grown bound (subst (Applicable t) is room) leaky of-key
-
-    -- where nothing leaks
-    pub new-seal-kept : leaks ≡ false
-        → Applied t change (record { table = stored-table (t .table) grown; links = links; hands = stored-hands (t .hands) put })
-    new-seal-kept tight = with-hands (stored-table (t .table) grown) (seal-kept t k p leaks table-grown bound tight)
-
-    -- where the payload leaks
-    pub new-seal-followed : leaks ≡ true → {followed : Table} → TableFollowed (stored-table (t .table) grown) (p .0) followed
+    pub stored-followed : (change : Change) → Puts change → links ≡ linksStored change (t .links) (t .table .terms)
+        → leakOf change ≡ Of p → {followed : Table} → TableFollowed (stored-table (t .table) grown) (p .0) followed
         → Applied t change (record { table = followed; links = links; hands = stored-hands (t .hands) put })
-    new-seal-followed leaky {followed} follow = with-hands followed (seal-followed t k p leaks table-grown bound leaky follow)
+    unfolding Applied entryStored linksStored leakOf
+    stored-followed Nothing (s, g) bound leak follow = absurd (no-leak leak)
+    stored-followed (Bind n x) (s, g) bound leak follow = absurd (no-leak leak)
+    stored-followed (Release n) (s, g) bound leak follow = absurd (no-leak leak)
+    stored-followed (NewKey n f) (s, g) bound leak follow = absurd (no-leak leak)
+    stored-followed OwnKey (s, g) bound leak follow = absurd (no-leak leak)
+    stored-followed OwnData (s, g) bound leak follow = absurd (no-leak leak)
+    stored-followed (NewSeal k q true) (s, g) bound leak {followed} follow =
+        record {
+          of-table = of-leak (ap (stored-table (t .table)) g) (same-leak leak) follow;
+          of-links = bound;
+          of-hands = hands-back t h read-slot put s;
+        }
+    stored-followed (NewSeal k q false) (s, g) bound leak follow = absurd (no-leak leak)
+    stored-followed (Know q) (s, g) bound leak {followed} follow =
+        record {
+          of-table = of-leak (table-back t at read-entry grown g) (same-leak leak) follow;
+          of-links = bound;
+          of-hands = hands-back t h read-slot put s;
+        }

@@ -14,6 +14,8 @@ use Rattle.sheets.specs.Calls.{over}
 use Rattle.sheets.specs.Reading.{read-commands}
 use Rattle.shapes.specs.declared.Command.{Command as Stored}
 use Rattle.shapes.specs.declared.Command.the-variants.{OwnKey}
+use Rattle.deciding.specs.declared.Change.{Change}
+use Rattle.deciding.specs.declared.Decision.{Decision}
 use Rattle.reader.specs.declared.Read.{Read}
 use Rattle.reader.specs.declared.Read.the-variants.{Entry, NoEntry}
 use Rattle.reader.specs.Reader.{entry-at}
@@ -33,6 +35,11 @@ command-in s i = command-of (entry-at s i)
 abbrev pub record-put : (records : List ℕ) (i answer value : ℕ) → List ℕ
 record-put records i answer value =
     set (set (set records (3 * i) answer) (3 * i + 1) (value / 256)) (3 * i + 2) (value % 256)
+
+-- a decision is told: its record is written, and its change given back
+pub record AnsweredBy (d : Decision) (i : ℕ) (before after : List ℕ) (change : Change) : Type 0 where
+  pub of-change : change ≡ d .change
+  pub of-record : after ≡ record-put before i (d .answer) (d .value)
 
 -- a good sheet's commands under a policy of document 01, on a token that comes from a fresh one, with room for their records
 pub record RunAsks (token : Token) (policy : ℕ) (s : List ℕ) (n : ℕ) (records : List ℕ) : Type 0 where

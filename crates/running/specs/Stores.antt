@@ -1,8 +1,8 @@
 -- A change as stores: which slot and which entry are stored, and what the counts and the live words become. Where a change leaves
 -- the slots or the entries as they are, what the command read is stored back. Assumes nothing.
-use Prim.Native.Nat.{ℕ, suc}
+use Prim.Native.Nat.{ℕ, suc, _<_}
 use mathlib.Core.Path.{_≡_}
-use mathlib.Core.Bool.{Bool, true, false}
+use mathlib.Core.Bool.{Bool, true, false, cond}
 use mathlib.Core.List.{List}
 use Rattle.shapes.specs.declared.Entry.{Entry}
 use Rattle.shapes.specs.declared.Slot.{Slot}
@@ -11,6 +11,11 @@ use Rattle.deciding.specs.declared.Change.the-variants.{Nothing, Bind, Release,
 use Rattle.shapes.specs.declared.Term.the-variants.{Data, Key, Seal}
 use Rattle.running.specs.declared.SlotPut.{SlotPut}
 use Rattle.running.specs.declared.EntryPut.{EntryPut}
+use Rattle.running.specs.declared.Leak.{Leak}
+use Rattle.running.specs.declared.Leak.the-variants.{Of, Nothing as No}
+use Rattle.rules.specs.State.{most-terms}
+use Rattle.token.specs.declared.Links.{Links}
+use Rattle.running.specs.Applied.{linked}
 use Rattle.handles.specs.Live.{BitSet}
 use Rattle.token.specs.Shows.{blank-slot, entry}
 
@@ -47,3 +52,35 @@ entryStored OwnData at e terms keys = record { at = terms; entry = entry Data tr
 entryStored (NewSeal k p leaks) at e terms keys =
     record { at = terms; entry = entry (Seal k p) true false; terms = suc terms; keys = keys }
 entryStored (Know p) at e terms keys = record { at = at; entry = e; terms = terms; keys = keys }
+
+-- the links, where a seal is appended
+abbrev pub Linkable : Change → (terms : ℕ) → Type 0
+Linkable Nothing terms = Unit {0}
+Linkable (Bind h slot) terms = Unit {0}
+Linkable (Release h) terms = Unit {0}
+Linkable (NewKey h flags) terms = Unit {0}
+Linkable OwnKey terms = Unit {0}
+Linkable OwnData terms = Unit {0}
+Linkable (NewSeal k p leaks) terms = (terms < most-terms) × (k .0 < most-terms)
+Linkable (Know p) terms = Unit {0}
+
+unfoldable pub linksStored : Change → Links → (terms : ℕ) → Links
+linksStored Nothing links terms = links
+linksStored (Bind h slot) links terms = links
+linksStored (Release h) links terms = links
+linksStored (NewKey h flags) links terms = links
+linksStored OwnKey links terms = links
+linksStored OwnData links terms = links
+linksStored (NewSeal k p leaks) links terms = linked links terms (k .0) (p .0)
+linksStored (Know p) links terms = links
+
+-- the term whose leak the change leads to
+unfoldable pub leakOf : Change → Leak
+leakOf Nothing = No
+leakOf (Bind h slot) = No
+leakOf (Release h) = No
+leakOf (NewKey h flags) = No
+leakOf OwnKey = No
+leakOf OwnData = No
+leakOf (NewSeal k p leaks) = cond leaks (Of p) No
+leakOf (Know p) = Of p

@@ -5,19 +5,23 @@ ghost use mathlib.Core.Bool.{true, false};
 ghost use lib.ListN.{length};
 ghost use Rattle.rules.specs.State.{most-terms};
 ghost use Rattle.token.specs.Shows.{blank-slot, entry as entryWith};
-ghost use Rattle.running.specs.Stores.{HandPut, SlotStored, entryStored};
-ghost use Rattle.running.specs.Advance.{command-in, record-put, RunAsks, Ran};
+ghost use Rattle.deciding.specs.Decisions.{decided};
+ghost use Rattle.running.specs.Views.{seenIn};
+ghost use Rattle.running.specs.Stores.{HandPut, SlotStored, entryStored, leakOf};
+ghost use Rattle.running.specs.Advance.{command-in, record-put, AnsweredBy, RunAsks, Ran};
 use crate::EntryPut;
+use crate::Leak;
+use crate::Names;
 use crate::SlotPut;
-use crate::find::bucket_of;
 use crate::find::find;
 use crate::leaks::follow;
+use crate::link::link;
 use crate::look::aim_of;
-use crate::look::code;
 use crate::look::names_of;
 use crate::look::place;
 use crate::look::seen;
 use deciding::Change;
+use deciding::Equal;
 use deciding::decide::decide;
 use handles::set_dead;
 use handles::set_live;
@@ -31,8 +35,9 @@ use shapes::Marks;
 use shapes::Slot;
 use shapes::Term;
 use shapes::TermNo;
-use shapes::entries::key_of;
 use shapes::entries::payload_no;
+use token::Hands;
+use token::Links;
 use token::Token;
 
 // The command of an entry. A good sheet has all its entries; that one that is not there reads as OWN KEY is never met.
@@ -161,76 +166,130 @@ fn put_record(records: &mut [u8], i: u16, answer: u8, value: u16)
     records[at + 2] = (value % 256) as u8;
 }
 
+// What a command comes to, of what was read: its record is written, and its change given back.
+fn answered(
+    records: &mut [u8],
+    i: u16,
+    policy: u8,
+    command: Command,
+    names: Names,
+    live: [u64; 4],
+    a: Slot,
+    b: Slot,
+    t: Entry,
+    u: Entry,
+    payload: Entry,
+    outer: Entry,
+    inner: Entry,
+    equal: Equal,
+    terms: u16,
+) -> Change
+    requires { ⌜ 3 * i + 3 ≤ length (now records) ⌝ }
+    ensures { λ r. ⌜ AnsweredBy (decided policy command (seenIn names live a b t u payload outer inner equal terms)) i (now (records .entry)) (now (records .exit)) r ⌝ }
+{
+    let view = seen(names, live, a, b, t, u, payload, outer, inner, equal, terms);
+    let decision = decide(policy, command, view);
+    put_record(records, i, decision.answer, decision.value);
+    let change = decision.change;
+    change
+}
+
+// The term whose leak a change leads to, where there is one.
+fn leak_of(change: Change) -> Leak
+    ensures { λ r. ⌜ r ≡ leakOf change ⌝ }
+{
+    match change {
+        Change::Nothing => Leak::Nothing,
+        Change::Bind(h, slot) => Leak::Nothing,
+        Change::Release(h) => Leak::Nothing,
+        Change::NewKey(h, flags) => Leak::Nothing,
+        Change::OwnKey => Leak::Nothing,
+        Change::OwnData => Leak::Nothing,
+        Change::NewSeal(k, p, leaks) => if leaks { Leak::Of(p) } else { Leak::Nothing },
+        Change::Know(p) => Leak::Of(p),
+    }
+}
+
 // Runs the n commands of a good sheet.
-pub fn advance(token: Token, policy: u8, sheet: &[u8], n: u16, records: &mut [u8]) -> Token
+pub fn advance(mut token: Token, policy: u8, sheet: &[u8], n: u16, records: &mut [u8]) -> Token
     requires { ⌜ RunAsks token policy (now sheet) n (now records) ⌝ }
     ensures { λ r. ⌜ Ran token policy (now (sheet .entry)) n (now (records .entry)) (now (records .exit)) r ⌝ }
 {
     let mut table = token.table;
-    let mut links = token.links;
-    let mut hands = token.hands;
+    let mut newest = token.links.newest;
+    let mut older = token.links.older;
+    let mut heads = token.links.heads;
+    let mut chain = token.links.chain;
+    let mut codes = token.links.codes;
+    let mut slots = token.hands.slots;
+    let mut live = token.hands.live;
     let mut i: u16 = 0;
     while i < n {
+        let terms = table.terms;
         // What the command names and sees, read into small values.
         let command = command_in(sheet, i);
         let names = names_of(command);
-        let a = hands.slots[names.a.0 as usize];
-        let b = hands.slots[names.b.0 as usize];
+        let a = slots[names.a.0 as usize];
+        let b = slots[names.b.0 as usize];
         let at_t = place(names.t);
         let t = table.entries[at_t];
-        let u = table.entries[place(names.u)];
-        let payload = table.entries[place(payload_no(t))];
-        let outer = table.entries[place(a.term)];
-        let inner = table.entries[place(b.term)];
         let aim = aim_of(command, a, b, t);
-        let equal = find(&links.heads, &links.chain, &links.codes, aim);
-        let live = hands.live;
-        let terms = table.terms;
-        let view = seen(names, live, a, b, t, u, payload, outer, inner, equal, terms);
+        let equal = find(&heads, &chain, &codes, aim);
         // What it comes to.
-        let decision = decide(policy, command, view);
-        put_record(records, i, decision.answer, decision.value);
+        let change = answered(
+            records,
+            i,
+            policy,
+            command,
+            names,
+            live,
+            a,
+            b,
+            t,
+            table.entries[place(names.u)],
+            table.entries[place(payload_no(t))],
+            table.entries[place(a.term)],
+            table.entries[place(b.term)],
+            equal,
+            terms,
+        );
         i += 1;
         // The change: a slot and an entry, stored back as they were read where it changes none.
-        let change = decision.change;
         let hand = slot_put(change, live, names.a, a, terms, table.keys);
         let slot = hand.slot;
-        let words = hand.live;
-        hands.slots[hand.number.0 as usize] = slot;
-        hands.live = words;
+        slots[hand.number.0 as usize] = slot;
+        live = hand.live;
         let put = entry_put(change, at_t, t, terms, table.keys);
         let entry = put.entry;
         let to = put.at;
         table.entries[to] = entry;
         table.terms = put.terms;
         table.keys = put.keys;
-        let Change::NewSeal(k, p, leaks) = change else {
-            let Change::Know(p) = change else {
-                continue;
-            };
-            let known = table.entries[p.0 as usize];
-            table = follow(table, &links.newest, &links.older, p, key_of(known));
+        link(
+            &mut newest,
+            &mut older,
+            &mut heads,
+            &mut chain,
+            &mut codes,
+            change,
+            terms,
+        );
+        let leak = leak_of(change);
+        let Leak::Of(p) = leak else {
             continue;
         };
-        // A new seal goes to the front of its two chains.
-        let code = code(k.0, p.0);
-        let at = terms as usize;
-        let over = k.0 as usize;
-        let bucket = bucket_of(code);
-        links.older[at] = links.newest[over];
-        links.newest[over] = terms + 1;
-        links.chain[at] = links.heads[bucket];
-        links.heads[bucket] = terms + 1;
-        links.codes[at] = code;
-        if !leaks {
-            continue;
-        }
-        let known = table.entries[p.0 as usize];
-        table = follow(table, &links.newest, &links.older, p, key_of(known));
+        table = follow(table, &newest, &older, p);
     }
-    Token {
-        table,
-        links,
-        hands,
-    }
+    let links = Links {
+        newest,
+        older,
+        heads,
+        chain,
+        codes,
+    };
+    token.table = table;
+    token.links = links;
+    let hands = Hands { slots, live };
+    token.hands = hands;
+    token
 }

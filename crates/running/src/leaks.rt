@@ -3,11 +3,10 @@
 ghost use mathlib.Core.Path.{_≡_};
 ghost use mathlib.Core.Bool.{true, not, _&&_};
 ghost use Rattle.token.specs.Shows.{entry as entryWith};
-ghost use Rattle.shapes.specs.Entries.{isKeyEntry, isHeld, isOwn};
-ghost use Rattle.running.specs.Leaks.{Followable};
+ghost use Rattle.shapes.specs.Entries.{isKeyEntry, isHeld, isOwn, keyOf};
+ghost use Rattle.running.specs.Leaks.{Followable, kind-at};
 ghost use Rattle.running.specs.Applied.{TableFollowed};
 use shapes::Entry;
-use shapes::KeyNo;
 use shapes::Marks;
 use shapes::Term;
 use shapes::TermNo;
@@ -16,21 +15,16 @@ use shapes::entries::payload_no;
 use token::Table;
 
 // The table with everything held that the leak of term t leads to.
-pub fn follow<'a>(
-    table: Table,
-    newest: &'a [u16; 1024],
-    older: &'a [u16; 1024],
-    t: TermNo,
-    k: KeyNo,
-) -> Table
-    requires { ⌜ Followable (table .entries) (now newest) (now older) (table .terms) (t .0) k ⌝ }
+pub fn follow<'a>(table: Table, newest: &'a [u16; 1024], older: &'a [u16; 1024], t: TermNo) -> Table
+    requires { ⌜ Followable (table .entries) (now newest) (now older) (table .terms) (t .0) (keyOf (kind-at (table .entries) (t .0))) ⌝ }
     ensures { λ r. ⌜ TableFollowed table (t .0) r ⌝ }
 {
     let mut next = table;
     let at = t.0 as usize;
-    next.entries[at] = known(next.entries[at]);
+    let leak = next.entries[at];
+    next.entries[at] = known(leak);
     let mut stack = [0u16; 1024];
-    stack[0] = k.0;
+    stack[0] = key_of(leak).0;
     let mut depth: usize = 1;
     let mut link: u16 = 0;
     loop {

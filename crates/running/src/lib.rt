@@ -2,6 +2,7 @@
 mod advance;
 mod find;
 mod leaks;
+mod link;
 mod look;
 mod one;
 
@@ -41,6 +42,12 @@ pub struct EntryPut {
     pub entry: Entry,
     pub terms: u16,
     pub keys: u16,
+}
+
+// The term whose leak is to be followed.
+pub enum Leak {
+    Of(TermNo),
+    Nothing,
 }
 
 // What the direct call gives back.

@@ -2,12 +2,13 @@
 -- (LeakFollow.antt); each turn takes a key from the stack, passes a seal or learns a key, and leaves less to do (LeakTurns.antt).
 -- Rests on these two.
 use Prim.Native.Nat.{_-_, _<_}
-use mathlib.Core.Path.{refl, sym, _∙_}
+use mathlib.Core.Path.{refl, sym, ap, _∙_}
 use native.Mathlib.Omega.{arith}
 use lib.ListN.{getD}
 use borrow.Author.Needs.{needs}
 use borrow.Author.Tests.{not-true, not-false}
 use Rattle.rules.specs.State.{most-terms}
+use Rattle.shapes.specs.declared.KeyNo.{KeyNo}
 use Rattle.running.proofs.LeakBegin.{leak-inside}
 use Rattle.running.proofs.LeakFollow.{Following, left, follow-begins, follow-ends, link-inside, depth-inside}
 use Rattle.running.proofs.LeakTurns.{pop-inside, follow-pops, pop-less, payload-inside, follow-passes, pass-less}
@@ -25,31 +26,35 @@ abbrev μ-loop : tie.MeasureT-loop
 cast-at : tie.Need-cast-at Inv-loop μ-loop
 cast-at c = search needs
 
-mul-known : tie.Need-mul-known Inv-loop μ-loop
-mul-known c = omega (arith, leak-inside (c .before .pre))
+mul-leak : tie.Need-mul-leak Inv-loop μ-loop
+mul-leak c = omega (arith, leak-inside (c .before .pre))
 
-element-copy-out-known : tie.Need-element-copy-out-known Inv-loop μ-loop
-element-copy-out-known c = omega (arith, leak-inside (c .before .pre))
+element-copy-out-leak : tie.Need-element-copy-out-leak Inv-loop μ-loop
+element-copy-out-leak c = omega (arith, leak-inside (c .before .pre))
 
 known-requires : tie.Need-known-requires Inv-loop μ-loop
 known-requires c κs = search needs
 
-mul-t19 : tie.Need-mul-t19 Inv-loop μ-loop
-mul-t19 c = omega (arith, leak-inside (c .before .before .before .pre))
+mul-t14 : tie.Need-mul-t14 Inv-loop μ-loop
+mul-t14 c = omega (arith, leak-inside (c .before .before .before .pre))
 
 element-set-from-next : tie.Need-element-set-from-next Inv-loop μ-loop
 element-set-from-next c = omega (arith, leak-inside (c .before .before .before .pre))
+
+key-of-requires : tie.Need-key-of-requires Inv-loop μ-loop
+key-of-requires c κs = search needs
 
 array-write-stack : tie.Need-array-write-stack Inv-loop μ-loop
 array-write-stack c = search needs
 
 loop-holds : tie.Need-loop-holds Inv-loop μ-loop
-loop-holds c = follow-begins _ (c .before .before .before .pre) (c .known .ensures) _ refl refl
+loop-holds c =
+    follow-begins _ (c .before .before .before .before .pre) (c .before .known .ensures) _ (ap (λ (k : KeyNo). k .0) (c .key-of .ensures)) refl
 
 returns : tie.Need-returns Inv-loop μ-loop
 returns c =
     let head = c .before .before in
-    follow-ends _ (head .before .before .before .before .pre) (head .before .known .ensures) (head .loop .inv) (c .if2 .taken)
+    follow-ends _ (head .before .before .before .before .before .pre) (head .before .before .known .ensures) (head .loop .inv) (c .if2 .taken)
     (c .before .if1 .taken)
 
 sub-depth : tie.Need-sub-depth Inv-loop μ-loop
@@ -138,24 +143,24 @@ loop-again-2 c =
 known-requires-2 : tie.Need-known-requires-2 Inv-loop μ-loop
 known-requires-2 c κs = search needs
 
-mul-t36 : tie.Need-mul-t36 Inv-loop μ-loop
-mul-t36 c = omega (arith, payload-here (c .before .before .before .before))
+mul-t35 : tie.Need-mul-t35 Inv-loop μ-loop
+mul-t35 c = omega (arith, payload-here (c .before .before .before .before))
 
 element-set-from-next-2 : tie.Need-element-set-from-next-2 Inv-loop μ-loop
 element-set-from-next-2 c = omega (arith, payload-here (c .before .before .before .before))
 
-key-of-requires : tie.Need-key-of-requires Inv-loop μ-loop
-key-of-requires c κs = search needs
+key-of-requires-2 : tie.Need-key-of-requires-2 Inv-loop μ-loop
+key-of-requires-2 c κs = search needs
 
 -- the stack has room for one more key
-room-here : (c : tie.After-key-of Inv-loop μ-loop) →
+room-here : (c : tie.After-key-of2 Inv-loop μ-loop) →
     c .before .before .before .before .before .before .before .before .before .before .loop .depth < most-terms
 room-here c =
     let asked = c .before .before .before in
     let found = asked .before .before .before in
     let turn = found .before .before .before in
     learn-room (turn .before .loop .inv) (turn .if1 .left) (found .payload-no .ensures)
-    (sym (asked .leaks .ensures) ∙ not-false _ (c .before .before .if3 .left)) (c .before .known2 .ensures) (c .key-of .ensures)
+    (sym (asked .leaks .ensures) ∙ not-false _ (c .before .before .if3 .left)) (c .before .known2 .ensures) (c .key-of2 .ensures)
 
 mul-stack : tie.Need-mul-stack Inv-loop μ-loop
 mul-stack c = omega (arith, room-here c)
@@ -172,7 +177,7 @@ loop-less-3 c =
     let found = asked .before .before .before in
     let turn = found .before .before .before in
     learn-less (turn .before .loop .inv) (turn .if1 .left) (found .payload-no .ensures)
-    (sym (asked .leaks .ensures) ∙ not-false _ (c .before .before .if3 .left)) (c .before .known2 .ensures) (c .key-of .ensures)
+    (sym (asked .leaks .ensures) ∙ not-false _ (c .before .before .if3 .left)) (c .before .known2 .ensures) (c .key-of2 .ensures)
 
 loop-again-3 : tie.Need-loop-again-3 Inv-loop μ-loop
 loop-again-3 c =
@@ -180,7 +185,7 @@ loop-again-3 c =
     let found = asked .before .before .before in
     let turn = found .before .before .before in
     follow-learns (turn .before .loop .inv) (turn .if1 .left) (found .payload-no .ensures)
-    (sym (asked .leaks .ensures) ∙ not-false _ (c .before .before .if3 .left)) (c .before .known2 .ensures) (c .key-of .ensures)
+    (sym (asked .leaks .ensures) ∙ not-false _ (c .before .before .if3 .left)) (c .before .known2 .ensures) (c .key-of2 .ensures)
 
 pub follow-spec : {M : Type 1} → statement M
 follow-spec =
@@ -189,11 +194,12 @@ follow-spec =
     Inv-loop
     μ-loop
     cast-at
-    mul-known
-    element-copy-out-known
+    mul-leak
+    element-copy-out-leak
     known-requires
-    mul-t19
+    mul-t14
     element-set-from-next
+    key-of-requires
     array-write-stack
     loop-holds
     returns
@@ -219,9 +225,9 @@ follow-spec =
     loop-less-2
     loop-again-2
     known-requires-2
-    mul-t36
+    mul-t35
     element-set-from-next-2
-    key-of-requires
+    key-of-requires-2
     mul-stack
     array-write-stack-2
     add-depth

@@ -130,9 +130,9 @@ module _ {policy : ℕ} {s : List ℕ} {n : ℕ} {before : List ℕ} {start : To
     record-room = omega (arith, room, adv .same-length)
 
     -- the next command, answered
-    module _ {command : Stored} (is : command ≡ command-in s i) {seen : View}
-        (sees : seen ≡ viewOf (t .table) (t .hands) (t .links .codes) command) {after : List ℕ} {change : Change}
-        (told : AnsweredBy (decided policy command seen) i records after change) where
+    module _ {command : Stored} (is : command ≡ command-in s i) {d : Decision}
+        (so : d ≡ decided policy command (viewOf (t .table) (t .hands) (t .links .codes) command)) {after : List ℕ} {change : Change}
+        (told : AnsweredBy d i records after change) where
       is-command : command ≡ commandOf (command-at s i)
       unfolding command-in command-of
       is-command =
@@ -147,16 +147,15 @@ module _ {policy : ℕ} {s : List ℕ} {n : ℕ} {before : List ℕ} {start : To
       pub next-applicable : Applicable t change
       next-applicable =
           subst (Applicable t) (sym (told .of-change))
-          (step-applicable sees refl (adv .asks .low) still-reached (command-at s i) holdable is-command)
+          (step-applicable refl so (adv .asks .low) still-reached (command-at s i) holdable is-command)
 
-      ran-next : {r : Token} → Applied t (decided policy command seen .change) r
+      ran-next : {r : Token} → Applied t (d .change) r
           → Ran start policy s (suc i) before
-          (record-put records i (decided policy command seen .answer) (decided policy command seen .value)) r
+          (record-put records i (d .answer) (d .value)) r
       unfolding read-commands
       ran-next applied p state comes =
-          let d : Decision = decided policy command seen in
           let ran = adv .so-far p state comes in
-          let st = step-stepped sees refl (adv .asks .low) applied p (ran .end) (command-at s i) (goes-on p state comes) holdable is-command in
+          let st = step-stepped refl so (adv .asks .low) applied p (ran .end) (command-at s i) (goes-on p state comes) holdable is-command in
           let a : Answer = record { answer = d .answer; value = d .value } in
           let counted : length (ran .said) ≡ i = one-answer-each (ran .run) ∙ read-length s i in
           record {
@@ -170,7 +169,7 @@ module _ {policy : ℕ} {s : List ℕ} {n : ℕ} {before : List ℕ} {start : To
       -- and its change made
       pub advance-on : {r : Token} → Applied t change r → AdvancedTo policy s n before start (i + 1) after r
       advance-on {r} applied =
-          let so : Applied t (decided policy command seen .change) r =
+          let made : Applied t (d .change) r =
           subst (λ (x : Change). Applied t x r) (told .of-change) applied in
           record {
             asks = adv .asks;
@@ -182,6 +181,6 @@ module _ {policy : ℕ} {s : List ℕ} {n : ℕ} {before : List ℕ} {start : To
                 (subst
                 (λ (k : ℕ).
                 Ran start policy s k before
-                (record-put records i (decided policy command seen .answer) (decided policy command seen .value)) r)
-                (sym (add-one i)) (ran-next so));
+                (record-put records i (d .answer) (d .value)) r)
+                (sym (add-one i)) (ran-next made));
           }

@@ -1,23 +1,21 @@
--- The view that is read piece by piece is the view of the token's parts. Rests on specs/Views.antt.
+-- What is decided on what was read of the token's parts is what is decided on the view of them. Rests on specs/Views.antt.
 use Prim.Native.Nat.{ℕ, _<_}
-use mathlib.Core.Path.{_≡_, _∙_}
+use mathlib.Core.Path.{_≡_, refl}
 use mathlib.Core.List.{List}
 use native.Mathlib.Omega.{arith}
 use lib.ListN.{getD}
-use Rattle.shapes.specs.declared.TermNo.{TermNo}
 use Rattle.shapes.specs.declared.Entry.{Entry}
 use Rattle.shapes.specs.declared.Slot.{Slot}
 use Rattle.token.specs.declared.Table.{Table}
 use Rattle.token.specs.declared.Hands.{Hands}
 use Rattle.running.specs.declared.Names.{Names}
 use Rattle.deciding.specs.declared.Equal.{Equal}
-use Rattle.deciding.specs.declared.View.{View}
 use Rattle.shapes.specs.declared.Command.{Command}
 use Rattle.shapes.specs.declared.Command.the-variants.{Generate, Wrap, Unwrap, Encrypt, Decrypt, Corrupt, Destroy}
 use Rattle.shapes.specs.declared.Command.the-variants.{OwnKey, OwnData, Seal}
 use Rattle.token.specs.Shows.{blank-entry, blank-slot}
-use Rattle.shapes.specs.Entries.{payloadNo}
-use Rattle.running.specs.Views.{seenIn, namesOf, inside, aimOf, equalIn, viewOf}
+use Rattle.deciding.specs.Decisions.{decided}
+use Rattle.running.specs.Views.{seenIn, namesOf, firstAt, otherAt, aimOf, equalIn, viewOf}
 
 -- a seal's code is above 0
 pub aim-positive : (c : Command) (a b : Slot) (t : Entry) → 0 < aimOf c a b t
@@ -33,31 +31,43 @@ aim-positive OwnKey a b t = omega arith
 aim-positive OwnData a b t = omega arith
 aim-positive (Seal k n) a b t = omega arith
 
--- the pieces in the order in which they are read
-pub view-of-seen : (table : Table) (hands : Hands) (codes : List ℕ) (c : Command)
-    → {n : Names}
-    → n ≡ namesOf c
-    → {at beside : ℕ}
-    → at ≡ inside (n .t .0)
-    → beside ≡ inside (n .u .0)
-    → {p : TermNo}
-    → p ≡ payloadNo (getD (table .entries) at blank-entry .term)
-    → {below over under : ℕ}
-    → below ≡ inside (p .0)
-    → over ≡ inside (getD (hands .slots) (n .a .0) blank-slot .term .0)
-    → under ≡ inside (getD (hands .slots) (n .b .0) blank-slot .term .0)
-    → {code : ℕ}
-    → code
-    ≡ aimOf c (getD (hands .slots) (n .a .0) blank-slot) (getD (hands .slots) (n .b .0) blank-slot)
-    (getD (table .entries) at blank-entry)
-    → {equal : Equal}
-    → equal ≡ equalIn codes code
-    → {v : View}
-    → v
-    ≡ seenIn n (hands .live) (getD (hands .slots) (n .a .0) blank-slot) (getD (hands .slots) (n .b .0) blank-slot)
-    (getD (table .entries) at blank-entry) (getD (table .entries) beside blank-entry) (getD (table .entries) below blank-entry)
-    (getD (table .entries) over blank-entry) (getD (table .entries) under blank-entry) equal (table .terms)
-    → v ≡ viewOf table hands codes c
-unfolding viewOf seenIn
-view-of-seen table hands codes c en e-at e-beside e-p e-below e-over e-under e-code e-equal e-v =
-    e-v ∙ rw (e-below, e-over, e-under, e-p, e-equal, e-code, e-at, e-beside, en)
+-- what is decided on what is read is what is decided on the view: a command asks for no more than the two terms that it looks at
+module _ (policy : ℕ) (table : Table) (hands : Hands) (codes : List ℕ) where
+  same-decision : (c : Command)
+      → let n = namesOf c in
+      let a = getD (hands .slots) (n .a .0) blank-slot in
+      let b = getD (hands .slots) (n .b .0) blank-slot in
+      let first = getD (table .entries) (firstAt n a) blank-entry in
+      decided policy c
+      (seenIn n (hands .live) a b first (getD (table .entries) (otherAt n b first) blank-entry) (equalIn codes (aimOf c a b first))
+      (table .terms))
+      ≡ decided policy c (viewOf table hands codes c)
+  unfolding decided namesOf aimOf viewOf seenIn firstAt otherAt
+  same-decision (Generate f) = refl
+  same-decision (Wrap g h) = refl
+  same-decision (Unwrap h n f) = refl
+  same-decision (Encrypt h n) = refl
+  same-decision (Decrypt h n) = refl
+  same-decision (Corrupt h) = refl
+  same-decision (Destroy h) = refl
+  same-decision OwnKey = refl
+  same-decision OwnData = refl
+  same-decision (Seal k n) = refl
+
+  pub decided-of-seen : (c : Command)
+      → {n : Names}
+      → n ≡ namesOf c
+      → {at beside : ℕ}
+      → at ≡ firstAt n (getD (hands .slots) (n .a .0) blank-slot)
+      → beside ≡ otherAt n (getD (hands .slots) (n .b .0) blank-slot) (getD (table .entries) at blank-entry)
+      → {code : ℕ}
+      → code
+      ≡ aimOf c (getD (hands .slots) (n .a .0) blank-slot) (getD (hands .slots) (n .b .0) blank-slot)
+      (getD (table .entries) at blank-entry)
+      → {equal : Equal}
+      → equal ≡ equalIn codes code
+      → decided policy c
+      (seenIn n (hands .live) (getD (hands .slots) (n .a .0) blank-slot) (getD (hands .slots) (n .b .0) blank-slot)
+      (getD (table .entries) at blank-entry) (getD (table .entries) beside blank-entry) equal (table .terms))
+      ≡ decided policy c (viewOf table hands codes c)
+  decided-of-seen c en e-at e-beside e-code e-equal = rw (e-equal, e-code, e-beside, e-at, en) (same-decision c)

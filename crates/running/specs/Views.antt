@@ -36,16 +36,16 @@ abbrev pub no-term : TermNo
 no-term = record { 0 = 0 }
 
 unfoldable pub namesOf : Command → Names
-namesOf (Generate f) = record { a = no-handle; b = no-handle; t = no-term; u = no-term }
-namesOf (Wrap a b) = record { a = a; b = b; t = no-term; u = no-term }
-namesOf (Unwrap h t f) = record { a = h; b = no-handle; t = t; u = no-term }
-namesOf (Encrypt h t) = record { a = h; b = no-handle; t = t; u = no-term }
-namesOf (Decrypt h t) = record { a = h; b = no-handle; t = t; u = no-term }
-namesOf (Corrupt h) = record { a = h; b = no-handle; t = no-term; u = no-term }
-namesOf (Destroy h) = record { a = h; b = no-handle; t = no-term; u = no-term }
-namesOf OwnKey = record { a = no-handle; b = no-handle; t = no-term; u = no-term }
-namesOf OwnData = record { a = no-handle; b = no-handle; t = no-term; u = no-term }
-namesOf (Seal k t) = record { a = no-handle; b = no-handle; t = k; u = t }
+namesOf (Generate f) = record { a = no-handle; b = no-handle; t = no-term; u = no-term; handled = false; opens = false }
+namesOf (Wrap a b) = record { a = a; b = b; t = no-term; u = no-term; handled = true; opens = false }
+namesOf (Unwrap h t f) = record { a = h; b = no-handle; t = t; u = no-term; handled = false; opens = true }
+namesOf (Encrypt h t) = record { a = h; b = no-handle; t = t; u = no-term; handled = false; opens = false }
+namesOf (Decrypt h t) = record { a = h; b = no-handle; t = t; u = no-term; handled = false; opens = true }
+namesOf (Corrupt h) = record { a = h; b = no-handle; t = no-term; u = no-term; handled = true; opens = false }
+namesOf (Destroy h) = record { a = h; b = no-handle; t = no-term; u = no-term; handled = false; opens = false }
+namesOf OwnKey = record { a = no-handle; b = no-handle; t = no-term; u = no-term; handled = false; opens = false }
+namesOf OwnData = record { a = no-handle; b = no-handle; t = no-term; u = no-term; handled = false; opens = false }
+namesOf (Seal k t) = record { a = no-handle; b = no-handle; t = k; u = t; handled = false; opens = false }
 
 abbrev pub inside : ℕ → ℕ
 inside i = cond (ltb i most-terms) i 0
@@ -113,16 +113,24 @@ viewOf table hands codes c =
     }
 
 -- the view, of what was read
-unfoldable pub seenIn : Names → (live : List ℕ) → (a b : Slot) → (t u payload outer inner : Entry) → Equal → (terms : ℕ) → View
-seenIn names live a b t u payload outer inner equal terms =
+-- the places of the two terms that it looks at: of its handles' terms, or of the first one and what that seals, or of the two it names
+unfoldable pub firstAt : Names → (a : Slot) → ℕ
+firstAt names a = inside (cond (names .handled) (a .term .0) (names .t .0))
+
+unfoldable pub otherAt : Names → (b : Slot) → (first : Entry) → ℕ
+otherAt names b first = inside (cond (names .handled) (b .term .0) (cond (names .opens) (payloadNo (first .term) .0) (names .u .0)))
+
+-- what is read, as a view: each of the two terms stands wherever a command may look for it
+unfoldable pub seenIn : Names → (live : List ℕ) → (a b : Slot) → (first other : Entry) → Equal → (terms : ℕ) → View
+seenIn names live a b first other equal terms =
     record {
       a = handleIn (bit live (names .a .0)) a;
       b = handleIn (bit live (names .b .0)) b;
-      t = lookupIn (ltb (names .t .0) terms) t;
-      u = lookupIn (ltb (names .u .0) terms) u;
-      payload = payload;
-      outer = outer;
-      inner = inner;
+      t = lookupIn (ltb (names .t .0) terms) first;
+      u = lookupIn (ltb (names .u .0) terms) other;
+      payload = other;
+      outer = first;
+      inner = other;
       equal = equal;
       free = free-in live;
       terms = terms;

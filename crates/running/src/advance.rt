@@ -17,8 +17,9 @@ use crate::find::find;
 use crate::leaks::follow;
 use crate::link::link;
 use crate::look::aim_of;
+use crate::look::first_at;
 use crate::look::names_of;
-use crate::look::place;
+use crate::look::other_at;
 use crate::look::seen;
 use deciding::Change;
 use deciding::Equal;
@@ -35,7 +36,6 @@ use shapes::Marks;
 use shapes::Slot;
 use shapes::Term;
 use shapes::TermNo;
-use shapes::entries::payload_no;
 use token::Hands;
 use token::Links;
 use token::Token;
@@ -176,18 +176,15 @@ fn answered(
     live: [u64; 4],
     a: Slot,
     b: Slot,
-    t: Entry,
-    u: Entry,
-    payload: Entry,
-    outer: Entry,
-    inner: Entry,
+    first: Entry,
+    other: Entry,
     equal: Equal,
     terms: u16,
 ) -> Change
     requires { ⌜ 3 * i + 3 ≤ length (now records) ⌝ }
-    ensures { λ r. ⌜ AnsweredBy (decided policy command (seenIn names live a b t u payload outer inner equal terms)) i (now (records .entry)) (now (records .exit)) r ⌝ }
+    ensures { λ r. ⌜ AnsweredBy (decided policy command (seenIn names live a b first other equal terms)) i (now (records .entry)) (now (records .exit)) r ⌝ }
 {
-    let view = seen(names, live, a, b, t, u, payload, outer, inner, equal, terms);
+    let view = seen(names, live, a, b, first, other, equal, terms);
     let decision = decide(policy, command, view);
     put_record(records, i, decision.answer, decision.value);
     let change = decision.change;
@@ -211,7 +208,7 @@ fn leak_of(change: Change) -> Leak
 }
 
 // Runs the n commands of a good sheet.
-pub fn advance(mut token: Token, policy: u8, sheet: &[u8], n: u16, records: &mut [u8]) -> Token
+pub fn advance(token: Token, policy: u8, sheet: &[u8], n: u16, records: &mut [u8]) -> Token
     requires { ⌜ RunAsks token policy (now sheet) n (now records) ⌝ }
     ensures { λ r. ⌜ Ran token policy (now (sheet .entry)) n (now (records .entry)) (now (records .exit)) r ⌝ }
 {
@@ -231,9 +228,9 @@ pub fn advance(mut token: Token, policy: u8, sheet: &[u8], n: u16, records: &mut
         let names = names_of(command);
         let a = slots[names.a.0 as usize];
         let b = slots[names.b.0 as usize];
-        let at_t = place(names.t);
-        let t = table.entries[at_t];
-        let aim = aim_of(command, a, b, t);
+        let at = first_at(names, a);
+        let first = table.entries[at];
+        let aim = aim_of(command, a, b, first);
         let equal = find(&heads, &chain, &codes, aim);
         // What it comes to.
         let change = answered(
@@ -245,11 +242,8 @@ pub fn advance(mut token: Token, policy: u8, sheet: &[u8], n: u16, records: &mut
             live,
             a,
             b,
-            t,
-            table.entries[place(names.u)],
-            table.entries[place(payload_no(t))],
-            table.entries[place(a.term)],
-            table.entries[place(b.term)],
+            first,
+            table.entries[other_at(names, b, first)],
             equal,
             terms,
         );
@@ -259,7 +253,7 @@ pub fn advance(mut token: Token, policy: u8, sheet: &[u8], n: u16, records: &mut
         let slot = hand.slot;
         slots[hand.number.0 as usize] = slot;
         live = hand.live;
-        let put = entry_put(change, at_t, t, terms, table.keys);
+        let put = entry_put(change, at, first, terms, table.keys);
         let entry = put.entry;
         let to = put.at;
         table.entries[to] = entry;
@@ -287,9 +281,10 @@ pub fn advance(mut token: Token, policy: u8, sheet: &[u8], n: u16, records: &mut
         chain,
         codes,
     };
-    token.table = table;
-    token.links = links;
     let hands = Hands { slots, live };
-    token.hands = hands;
-    token
+    Token {
+        table,
+        links,
+        hands,
+    }
 }

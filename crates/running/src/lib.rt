@@ -21,12 +21,15 @@ use shapes::TermNo;
 use token::Token;
 use token::fresh;
 
-// The numbers that a command names, 0 where it names none.
+// The numbers that a command names, 0 where it names none. The terms that it looks at are its handles' own, or the first one and
+// what that seals, or the two that it names.
 pub struct Names {
     pub a: HandleNo,
     pub b: HandleNo,
     pub t: TermNo,
     pub u: TermNo,
+    pub handled: bool,
+    pub opens: bool,
 }
 
 // The slot that a change stores, and the live words that it leaves.

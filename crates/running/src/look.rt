@@ -3,7 +3,7 @@ ghost use mathlib.Core.Path.{_≡_};
 ghost use Prim.Native.Nat.{_<_};
 ghost use Rattle.rules.specs.State.{most-terms};
 ghost use Rattle.token.specs.Shows.{seal-code};
-ghost use Rattle.running.specs.Views.{namesOf, inside, handleIn, lookupIn, aimOf, seenIn};
+ghost use Rattle.running.specs.Views.{namesOf, inside, firstAt, otherAt, handleIn, lookupIn, aimOf, seenIn};
 use crate::Names;
 use deciding::Equal;
 use deciding::Handle;
@@ -17,11 +17,19 @@ use shapes::HandleNo;
 use shapes::Slot;
 use shapes::TermNo;
 use shapes::entries::key_of;
+use shapes::entries::payload_no;
 
-fn named(a: HandleNo, b: HandleNo, t: TermNo, u: TermNo) -> Names
-    ensures { λ r. ⌜ r ≡ record { a = a; b = b; t = t; u = u } ⌝ }
+fn named(a: HandleNo, b: HandleNo, t: TermNo, u: TermNo, handled: bool, opens: bool) -> Names
+    ensures { λ r. ⌜ r ≡ record { a = a; b = b; t = t; u = u; handled = handled; opens = opens } ⌝ }
 {
-    Names { a, b, t, u }
+    Names {
+        a,
+        b,
+        t,
+        u,
+        handled,
+        opens,
+    }
 }
 
 pub fn names_of(command: Command) -> Names
@@ -30,16 +38,16 @@ pub fn names_of(command: Command) -> Names
     let h = HandleNo(0);
     let n = TermNo(0);
     match command {
-        Command::Generate(flags) => named(h, h, n, n),
-        Command::Wrap(a, b) => named(a, b, n, n),
-        Command::Unwrap(a, t, flags) => named(a, h, t, n),
-        Command::Encrypt(a, t) => named(a, h, t, n),
-        Command::Decrypt(a, t) => named(a, h, t, n),
-        Command::Corrupt(a) => named(a, h, n, n),
-        Command::Destroy(a) => named(a, h, n, n),
-        Command::OwnKey => named(h, h, n, n),
-        Command::OwnData => named(h, h, n, n),
-        Command::Seal(t, u) => named(h, h, t, u),
+        Command::Generate(flags) => named(h, h, n, n, false, false),
+        Command::Wrap(a, b) => named(a, b, n, n, true, false),
+        Command::Unwrap(a, t, flags) => named(a, h, t, n, false, true),
+        Command::Encrypt(a, t) => named(a, h, t, n, false, false),
+        Command::Decrypt(a, t) => named(a, h, t, n, false, true),
+        Command::Corrupt(a) => named(a, h, n, n, true, false),
+        Command::Destroy(a) => named(a, h, n, n, false, false),
+        Command::OwnKey => named(h, h, n, n, false, false),
+        Command::OwnData => named(h, h, n, n, false, false),
+        Command::Seal(t, u) => named(h, h, t, u, false, false),
     }
 }
 
@@ -49,6 +57,31 @@ pub fn place(t: TermNo) -> usize
     ensures { λ r. ⌜ r < most-terms ⌝ }
 {
     if t.0 < 1024 { t.0 as usize } else { 0 }
+}
+
+// The place of the term that a command looks at first.
+pub fn first_at(names: Names, a: Slot) -> usize
+    ensures { λ r. ⌜ r ≡ firstAt names a ⌝ }
+    ensures { λ r. ⌜ r < most-terms ⌝ }
+{
+    if names.handled {
+        return place(a.term);
+    }
+    place(names.t)
+}
+
+// The place of the other term that it looks at.
+pub fn other_at(names: Names, b: Slot, first: Entry) -> usize
+    ensures { λ r. ⌜ r ≡ otherAt names b first ⌝ }
+    ensures { λ r. ⌜ r < most-terms ⌝ }
+{
+    if names.handled {
+        return place(b.term);
+    }
+    if names.opens {
+        return place(payload_no(first));
+    }
+    place(names.u)
 }
 
 pub fn handle_in(live: bool, slot: Slot) -> Handle
@@ -103,24 +136,21 @@ pub fn seen(
     live: [u64; 4],
     a: Slot,
     b: Slot,
-    t: Entry,
-    u: Entry,
-    payload: Entry,
-    outer: Entry,
-    inner: Entry,
+    first: Entry,
+    other: Entry,
     equal: Equal,
     terms: u16,
 ) -> View
-    ensures { λ r. ⌜ r ≡ seenIn names live a b t u payload outer inner equal terms ⌝ }
+    ensures { λ r. ⌜ r ≡ seenIn names live a b first other equal terms ⌝ }
 {
     View {
         a: handle_in(is_live(live, names.a), a),
         b: handle_in(is_live(live, names.b), b),
-        t: lookup_in(names.t.0 < terms, t),
-        u: lookup_in(names.u.0 < terms, u),
-        payload,
-        outer,
-        inner,
+        t: lookup_in(names.t.0 < terms, first),
+        u: lookup_in(names.u.0 < terms, other),
+        payload: other,
+        outer: first,
+        inner: other,
         equal,
         free: free(live),
         terms,

@@ -6,7 +6,7 @@ use native.Mathlib.Omega.{arith}
 use Rattle.running.specs.Applied.{Applicable}
 use Rattle.running.proofs.Advancing.{AdvancedTo, advance-begins, chains-found, terms-few, keys-few, few, all-run}
 use Rattle.running.proofs.Advancing.{next-applicable, record-room, advance-on}
-use Rattle.running.proofs.ApiLook.{aim-positive, view-of-seen}
+use Rattle.running.proofs.ApiLook.{aim-positive, decided-of-seen}
 use Rattle.running.proofs.CallShown.{bytes-of}
 use Rattle.running.proofs.Stored.{stored-inside, linkable, stored-applied, stored-followable, stored-followed}
 use borrow.Author.Needs.{needs}
@@ -14,8 +14,14 @@ use Rattle.running.proofs.advance.advance.Statement.{statement}
 use Rattle.running.proofs.advance.advance.Tie as tie
 
 abbrev Inv-loop : tie.InvT-loop
-Inv-loop token policy sheet n records₀ table₀ newest₀ older₀ heads₀ chain₀ codes₀ slots₀ live₀ i₀ records table newest older heads chain codes slots live i =
-    AdvancedTo policy sheet n records₀ token i records
+Inv-loop policy sheet n records₀ table₀ newest₀ older₀ heads₀ chain₀ codes₀ slots₀ live₀ i₀ records table newest older heads chain codes slots live i =
+    AdvancedTo policy sheet n records₀
+    (record {
+      table = table₀;
+      links = record { newest = newest₀; older = older₀; heads = heads₀; chain = chain₀; codes = codes₀ };
+      hands = record { slots = slots₀; live = live₀ };
+    })
+    i records
     (record {
       table = table;
       links = record { newest = newest; older = older; heads = heads; chain = chain; codes = codes };
@@ -23,12 +29,12 @@ Inv-loop token policy sheet n records₀ table₀ newest₀ older₀ heads₀ ch
     })
 
 abbrev μ-loop : tie.MeasureT-loop
-μ-loop token policy sheet n records₀ table₀ newest₀ older₀ heads₀ chain₀ codes₀ slots₀ live₀ i₀ records table newest older heads chain codes slots live i =
+μ-loop policy sheet n records₀ table₀ newest₀ older₀ heads₀ chain₀ codes₀ slots₀ live₀ i₀ records table newest older heads chain codes slots live i =
     n - i
 
 -- what is decided can be made of the token
 applicable : (c : tie.After-answered Inv-loop μ-loop) →
-    let l = c .before .before .before .before .before .before .before .before .before .before .before .before .before .before .before .before .before .before .before .before .before .before .before .before .before .loop in
+    let l = c .before .before .before .before .before .before .before .before .before .before .before .before .before .before .before .before .before .before .loop in
     Applicable
     (record {
       table = l .table;
@@ -39,19 +45,15 @@ applicable : (c : tie.After-answered Inv-loop μ-loop) →
 applicable c =
     let c2 = c .before .before in
     let c4 = c2 .before .before in
-    let c6 = c4 .before .before in
-    let c7 = c6 .before in
-    let c9 = c7 .before .before in
-    let c11 = c9 .before .before in
-    let c15 = c11 .before .before .before .before in
-    let c17 = c15 .before .before in
-    let c22 = c17 .before .before .before .before .before in
-    let c23 = c22 .before in
-    let c24 = c23 .before in
-    let c25 = c24 .before in
-    next-applicable (c25 .loop .inv) (c24 .loop-test .taken) (c23 .command-in .ensures)
-    (view-of-seen _ _ _ _ (c22 .names-of .ensures) (c17 .place .ensures .0) (c9 .place2 .ensures .0) (c7 .payload-no .ensures) (c6 .place3 .ensures .0)
-    (c4 .place4 .ensures .0) (c2 .place5 .ensures .0) (c15 .aim-of .ensures) (c11 .find .ensures) refl) (c .answered .ensures)
+    let c8 = c4 .before .before .before .before in
+    let c10 = c8 .before .before in
+    let c15 = c10 .before .before .before .before .before in
+    let c16 = c15 .before in
+    let c17 = c16 .before in
+    let c18 = c17 .before in
+    next-applicable (c18 .loop .inv) (c17 .loop-test .taken) (c16 .command-in .ensures)
+    (decided-of-seen _ _ _ _ _ (c15 .names-of .ensures) (c10 .first-at .ensures .0) (c2 .other-at .ensures .0) (c8 .aim-of .ensures)
+    (c4 .find .ensures)) (c .answered .ensures)
 
 loop-holds : tie.Need-loop-holds Inv-loop μ-loop
 loop-holds c =
@@ -83,14 +85,14 @@ mul-b c = search needs
 array-copy-out-b : tie.Need-array-copy-out-b Inv-loop μ-loop
 array-copy-out-b c = search needs
 
-place-requires : tie.Need-place-requires Inv-loop μ-loop
-place-requires c κs = search needs
+first-at-requires : tie.Need-first-at-requires Inv-loop μ-loop
+first-at-requires c κs = search needs
 
-mul-t : tie.Need-mul-t Inv-loop μ-loop
-mul-t c = search needs
+mul-first : tie.Need-mul-first Inv-loop μ-loop
+mul-first c = search needs
 
-element-copy-out-t : tie.Need-element-copy-out-t Inv-loop μ-loop
-element-copy-out-t c = search needs
+element-copy-out-first : tie.Need-element-copy-out-first Inv-loop μ-loop
+element-copy-out-first c = search needs
 
 aim-of-requires : tie.Need-aim-of-requires Inv-loop μ-loop
 aim-of-requires c κs = search needs
@@ -101,8 +103,8 @@ find-requires c κs =
     let c13 = c3 .before .before .before .before .before .before .before .before .before .before in
     (chains-found (c13 .loop .inv), rw (c3 .aim-of .ensures) (aim-positive _ _ _ _))
 
-place-requires-2 : tie.Need-place-requires-2 Inv-loop μ-loop
-place-requires-2 c κs = search needs
+other-at-requires : tie.Need-other-at-requires Inv-loop μ-loop
+other-at-requires c κs = search needs
 
 mul-answered : tie.Need-mul-answered Inv-loop μ-loop
 mul-answered c = search needs
@@ -110,51 +112,19 @@ mul-answered c = search needs
 element-copy-out-answered : tie.Need-element-copy-out-answered Inv-loop μ-loop
 element-copy-out-answered c = search needs
 
-payload-no-requires : tie.Need-payload-no-requires Inv-loop μ-loop
-payload-no-requires c κs = search needs
-
-place-requires-3 : tie.Need-place-requires-3 Inv-loop μ-loop
-place-requires-3 c κs = search needs
-
-mul-answered-2 : tie.Need-mul-answered-2 Inv-loop μ-loop
-mul-answered-2 c = search needs
-
-element-copy-out-answered-2 : tie.Need-element-copy-out-answered-2 Inv-loop μ-loop
-element-copy-out-answered-2 c = search needs
-
-place-requires-4 : tie.Need-place-requires-4 Inv-loop μ-loop
-place-requires-4 c κs = search needs
-
-mul-answered-3 : tie.Need-mul-answered-3 Inv-loop μ-loop
-mul-answered-3 c = search needs
-
-element-copy-out-answered-3 : tie.Need-element-copy-out-answered-3 Inv-loop μ-loop
-element-copy-out-answered-3 c = search needs
-
-place-requires-5 : tie.Need-place-requires-5 Inv-loop μ-loop
-place-requires-5 c κs = search needs
-
-mul-answered-4 : tie.Need-mul-answered-4 Inv-loop μ-loop
-mul-answered-4 c = search needs
-
-element-copy-out-answered-4 : tie.Need-element-copy-out-answered-4 Inv-loop μ-loop
-element-copy-out-answered-4 c = search needs
-
 answered-requires : tie.Need-answered-requires Inv-loop μ-loop
 answered-requires c κs =
     let c10 = c .before .before .before .before .before .before .before .before .before .before in
-    let c20 = c10 .before .before .before .before .before .before .before .before .before .before in
-    let c23 = c20 .before .before .before in
-    let c24 = c23 .before in
-    record-room (c24 .loop .inv) (c23 .loop-test .taken)
+    let c16 = c10 .before .before .before .before .before .before in
+    let c17 = c16 .before in
+    record-room (c17 .loop .inv) (c16 .loop-test .taken)
 
 add-i : tie.Need-add-i Inv-loop μ-loop
 add-i c =
     let c10 = c .before .before .before .before .before .before .before .before .before .before in
-    let c20 = c10 .before .before .before .before .before .before .before .before .before .before in
-    let c26 = c20 .before .before .before .before .before .before in
-    let c27 = c26 .before in
-    record { fits = omega (arith, c26 .loop-test .taken, few (c27 .loop .inv)) }
+    let c19 = c10 .before .before .before .before .before .before .before .before .before in
+    let c20 = c19 .before in
+    record { fits = omega (arith, c19 .loop-test .taken, few (c20 .loop .inv)) }
 
 slot-put-requires : tie.Need-slot-put-requires Inv-loop μ-loop
 slot-put-requires c κs = search needs
@@ -172,38 +142,34 @@ entry-put-requires : tie.Need-entry-put-requires Inv-loop μ-loop
 entry-put-requires c κs =
     let c10 = c .before .before .before .before .before .before .before .before .before .before in
     let c20 = c10 .before .before .before .before .before .before .before .before .before .before in
-    let c30 = c20 .before .before .before .before .before .before .before .before .before .before in
-    let c31 = c30 .before in
-    (terms-few (c31 .loop .inv), keys-few (c31 .loop .inv))
+    let c24 = c20 .before .before .before .before in
+    (terms-few (c24 .loop .inv), keys-few (c24 .loop .inv))
 
 mul-entry : tie.Need-mul-entry Inv-loop μ-loop
 mul-entry c =
     let c1 = c .before in
     let c8 = c1 .before .before .before .before .before .before .before in
     let c18 = c8 .before .before .before .before .before .before .before .before .before .before in
-    let c25 = c18 .before .before .before .before .before .before .before in
-    record { fits = omega (arith, stored-inside _ _ _ _ _ (applicable (c8)) (c25 .place .ensures .1) (c1 .entry-put .ensures)) }
+    record { fits = omega (arith, stored-inside _ _ _ _ _ (applicable (c8)) (c18 .first-at .ensures .1) (c1 .entry-put .ensures)) }
 
 element-set-from-entry : tie.Need-element-set-from-entry Inv-loop μ-loop
 element-set-from-entry c =
     let c1 = c .before in
     let c8 = c1 .before .before .before .before .before .before .before in
     let c18 = c8 .before .before .before .before .before .before .before .before .before .before in
-    let c25 = c18 .before .before .before .before .before .before .before in
-    stored-inside _ _ _ _ _ (applicable (c8)) (c25 .place .ensures .1) (c1 .entry-put .ensures)
+    stored-inside _ _ _ _ _ (applicable (c8)) (c18 .first-at .ensures .1) (c1 .entry-put .ensures)
 
 link-requires : tie.Need-link-requires Inv-loop μ-loop
 link-requires c κs =
     let c10 = c .before .before .before .before .before .before .before .before .before .before in
     let c13 = c10 .before .before .before in
     let c23 = c13 .before .before .before .before .before .before .before .before .before .before in
-    let c33 = c23 .before .before .before .before .before .before .before .before .before .before in
-    let c38 = c33 .before .before .before .before .before in
+    let c31 = c23 .before .before .before .before .before .before .before .before in
     linkable
     (record {
-      table = c38 .loop .table;
-      links = record { newest = c38 .loop .newest; older = c38 .loop .older; heads = c38 .loop .heads; chain = c38 .loop .chain; codes = c38 .loop .codes };
-      hands = record { slots = c38 .loop .slots; live = c38 .loop .live };
+      table = c31 .loop .table;
+      links = record { newest = c31 .loop .newest; older = c31 .loop .older; heads = c31 .loop .heads; chain = c31 .loop .chain; codes = c31 .loop .codes };
+      hands = record { slots = c31 .loop .slots; live = c31 .loop .live };
     })
     (c13 .answered .result) (applicable (c13))
 
@@ -221,9 +187,8 @@ loop-less c =
     let c10 = c .before .before .before .before .before .before .before .before .before .before in
     let c20 = c10 .before .before .before .before .before .before .before .before .before .before in
     let c30 = c20 .before .before .before .before .before .before .before .before .before .before in
-    let c40 = c30 .before .before .before .before .before .before .before .before .before .before in
-    let c41 = c40 .before in
-    omega (arith, c41 .loop-test .taken)
+    let c34 = c30 .before .before .before .before in
+    omega (arith, c34 .loop-test .taken)
 
 loop-again : tie.Need-loop-again Inv-loop μ-loop
 loop-again c =
@@ -234,20 +199,16 @@ loop-again c =
     let c17 = c14 .before .before .before in
     let c19 = c17 .before .before in
     let c21 = c19 .before .before in
-    let c23 = c21 .before .before in
-    let c24 = c23 .before in
-    let c26 = c24 .before .before in
-    let c28 = c26 .before .before in
-    let c32 = c28 .before .before .before .before in
-    let c34 = c32 .before .before in
-    let c39 = c34 .before .before .before .before .before in
-    let c40 = c39 .before in
-    let c41 = c40 .before in
-    let c42 = c41 .before in
-    advance-on (c42 .loop .inv) (c41 .loop-test .taken) (c40 .command-in .ensures)
-    (view-of-seen _ _ _ _ (c39 .names-of .ensures) (c34 .place .ensures .0) (c26 .place2 .ensures .0) (c24 .payload-no .ensures) (c23 .place3 .ensures .0)
-    (c21 .place4 .ensures .0) (c19 .place5 .ensures .0) (c32 .aim-of .ensures) (c28 .find .ensures) refl) (c17 .answered .ensures)
-    (stored-applied _ (c39 .names-of .result .a .0) refl (c34 .place .result) refl (c14 .slot-put .result) (c10 .entry-put .result) (c17 .answered .result)
+    let c25 = c21 .before .before .before .before in
+    let c27 = c25 .before .before in
+    let c32 = c27 .before .before .before .before .before in
+    let c33 = c32 .before in
+    let c34 = c33 .before in
+    let c35 = c34 .before in
+    advance-on (c35 .loop .inv) (c34 .loop-test .taken) (c33 .command-in .ensures)
+    (decided-of-seen _ _ _ _ _ (c32 .names-of .ensures) (c27 .first-at .ensures .0) (c19 .other-at .ensures .0) (c25 .aim-of .ensures)
+    (c21 .find .ensures)) (c17 .answered .ensures)
+    (stored-applied _ (c32 .names-of .result .a .0) refl (c27 .first-at .result) refl (c14 .slot-put .result) (c10 .entry-put .result) (c17 .answered .result)
     (c14 .slot-put .ensures, c10 .entry-put .ensures) (c3 .link .ensures) (sym (c2 .leak-of .ensures) ∙ c .enum-told .given .1))
 
 follow-requires : tie.Need-follow-requires Inv-loop μ-loop
@@ -259,9 +220,8 @@ follow-requires c κs =
     let c17 = c13 .before .before .before .before in
     let c20 = c17 .before .before .before in
     let c30 = c20 .before .before .before .before .before .before .before .before .before .before in
-    let c37 = c30 .before .before .before .before .before .before .before in
-    let c42 = c37 .before .before .before .before .before in
-    stored-followable _ (c42 .names-of .result .a .0) refl (c37 .place .result) refl (c17 .slot-put .result) (c13 .entry-put .result) (c20 .answered .result)
+    let c35 = c30 .before .before .before .before .before in
+    stored-followable _ (c35 .names-of .result .a .0) refl (c30 .first-at .result) refl (c17 .slot-put .result) (c13 .entry-put .result) (c20 .answered .result)
     (c17 .slot-put .ensures, c13 .entry-put .ensures) (c6 .link .ensures) (sym (c5 .leak-of .ensures) ∙ c3 .leak .given .1)
     (applicable (c20))
 
@@ -270,9 +230,8 @@ loop-less-2 c =
     let c10 = c .before .before .before .before .before .before .before .before .before .before in
     let c20 = c10 .before .before .before .before .before .before .before .before .before .before in
     let c30 = c20 .before .before .before .before .before .before .before .before .before .before in
-    let c40 = c30 .before .before .before .before .before .before .before .before .before .before in
-    let c45 = c40 .before .before .before .before .before in
-    omega (arith, c45 .loop-test .taken)
+    let c38 = c30 .before .before .before .before .before .before .before .before in
+    omega (arith, c38 .loop-test .taken)
 
 loop-again-2 : tie.Need-loop-again-2 Inv-loop μ-loop
 loop-again-2 c =
@@ -284,20 +243,16 @@ loop-again-2 c =
     let c21 = c18 .before .before .before in
     let c23 = c21 .before .before in
     let c25 = c23 .before .before in
-    let c27 = c25 .before .before in
-    let c28 = c27 .before in
-    let c30 = c28 .before .before in
-    let c32 = c30 .before .before in
-    let c36 = c32 .before .before .before .before in
-    let c38 = c36 .before .before in
-    let c43 = c38 .before .before .before .before .before in
-    let c44 = c43 .before in
-    let c45 = c44 .before in
-    let c46 = c45 .before in
-    advance-on (c46 .loop .inv) (c45 .loop-test .taken) (c44 .command-in .ensures)
-    (view-of-seen _ _ _ _ (c43 .names-of .ensures) (c38 .place .ensures .0) (c30 .place2 .ensures .0) (c28 .payload-no .ensures) (c27 .place3 .ensures .0)
-    (c25 .place4 .ensures .0) (c23 .place5 .ensures .0) (c36 .aim-of .ensures) (c32 .find .ensures) refl) (c21 .answered .ensures)
-    (stored-followed _ (c43 .names-of .result .a .0) refl (c38 .place .result) refl (c18 .slot-put .result) (c14 .entry-put .result) (c21 .answered .result)
+    let c29 = c25 .before .before .before .before in
+    let c31 = c29 .before .before in
+    let c36 = c31 .before .before .before .before .before in
+    let c37 = c36 .before in
+    let c38 = c37 .before in
+    let c39 = c38 .before in
+    advance-on (c39 .loop .inv) (c38 .loop-test .taken) (c37 .command-in .ensures)
+    (decided-of-seen _ _ _ _ _ (c36 .names-of .ensures) (c31 .first-at .ensures .0) (c23 .other-at .ensures .0) (c29 .aim-of .ensures)
+    (c25 .find .ensures)) (c21 .answered .ensures)
+    (stored-followed _ (c36 .names-of .result .a .0) refl (c31 .first-at .result) refl (c18 .slot-put .result) (c14 .entry-put .result) (c21 .answered .result)
     (c18 .slot-put .ensures, c14 .entry-put .ensures) (c7 .link .ensures) (sym (c6 .leak-of .ensures) ∙ c4 .leak .given .1) (c .follow .ensures))
 
 same-length : tie.Need-same-length Inv-loop μ-loop
@@ -325,24 +280,14 @@ advance-spec =
     cast-b
     mul-b
     array-copy-out-b
-    place-requires
-    mul-t
-    element-copy-out-t
+    first-at-requires
+    mul-first
+    element-copy-out-first
     aim-of-requires
     find-requires
-    place-requires-2
+    other-at-requires
     mul-answered
     element-copy-out-answered
-    payload-no-requires
-    place-requires-3
-    mul-answered-2
-    element-copy-out-answered-2
-    place-requires-4
-    mul-answered-3
-    element-copy-out-answered-3
-    place-requires-5
-    mul-answered-4
-    element-copy-out-answered-4
     answered-requires
     add-i
     slot-put-requires

@@ -1,11 +1,11 @@
 -- Laws of bytes written into a buffer from a place on: nothing, one byte, one string behind another. Rests on specs/Writing.antt.
-use Prim.Native.Nat.{ℕ, _+_, _≤_, _<_}
+use Prim.Native.Nat.{ℕ, _+_, _-_, _≤_, _<_}
 use native.Mathlib.Nat.{add-zero, zero-add}
 use native.Mathlib.Numerals.{add-one}
 use native.Mathlib.Omega.{arith}
 use mathlib.Core.Path.{_≡_, refl, sym, ap, _∙_, subst}
 use mathlib.Core.List.{List, [], _∷_, _++_, append-assoc, append-nil}
-use lib.ListN.{length, getD, take, drop, set, length-append, length-drop, take-append-drop}
+use lib.ListN.{length, getD, take, drop, set, length-append, length-take, length-drop, take-append-drop}
 use lib.Seq.{length-take-le, take-all, take-suc, take-at, drop-at, drop-drop, set-split}
 use Rattle.sheets.specs.Calls.{over}
 use Rattle.text.specs.Writing.{placed, Wrote, Printed}
@@ -127,3 +127,11 @@ module _ (bytes before : List ℕ) (at i : ℕ) (out : List ℕ) (to : ℕ) (roo
 
   pub copied-all : length bytes ≤ i → Wrote (length bytes) bytes before at out to
   copied-all h = wrote-few (length bytes) (omega arith) (wrote-as (take-all i bytes h) so-far)
+
+-- a part of a string, from a place on
+pub wrote-part : (bytes : List ℕ) (from long : ℕ) {m : ℕ} {before after : List ℕ} {at end : ℕ}
+    → Wrote m (take (from + long - from) (drop from bytes)) before at after end
+    → Wrote long (take long (drop from bytes)) before at after end
+wrote-part bytes from long w =
+    let as-long : from + long - from ≡ long = omega arith in
+    wrote-few long (omega (arith, length-take long (drop from bytes))) (rw as-long at w)

@@ -1,7 +1,7 @@
 // Bytes, and numbers in decimal, put into the buffer at a place; each function gives the place behind what it has written.
 ghost use Prim.Native.Nat.{_+_, _≤_};
 ghost use mathlib.Core.List.{_∷_, [], _++_};
-ghost use lib.ListN.{length};
+ghost use lib.ListN.{length, take, drop};
 ghost use Rattle.text.specs.Text.{decimal};
 ghost use Rattle.text.specs.Writing.{Wrote};
 
@@ -17,6 +17,16 @@ pub fn write_bytes(bytes: &[u8], at: usize, out: &mut [u8]) -> usize
         i += 1;
     }
     to
+}
+
+// A part of the bytes, from a place on.
+pub fn write_part(bytes: &[u8], from: usize, long: usize, at: usize, out: &mut [u8]) -> usize
+    requires { ⌜ (from + long ≤ length (now bytes)) × (at + long ≤ length (now out)) ⌝ }
+    ensures { λ r.
+        ⌜ Wrote long (take long (drop from (now (bytes .entry)))) (now (out .entry)) at (now (out .exit)) r ⌝ }
+{
+    let to = from + long;
+    write_bytes(&bytes[from..to], at, out)
 }
 
 // A number's digits: the last one behind those of a tenth of it.

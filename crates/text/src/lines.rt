@@ -1,5 +1,5 @@
 // The lines of the text, each put into the buffer at a place.
-ghost use Prim.Native.Nat.{_+_, _*_, _≤_};
+ghost use Prim.Native.Nat.{_+_, _*_, _<_, _≤_};
 ghost use mathlib.Core.Path.{_≡_};
 ghost use mathlib.Core.List.{_∷_, [], _++_};
 ghost use lib.ListN.{length};
@@ -10,6 +10,10 @@ ghost use Rattle.text.specs.Writing.{Wrote};
 use crate::Tally;
 use crate::append::write_bytes;
 use crate::append::write_number;
+use crate::append::write_part;
+
+// How long a command's name is with the blank behind it, by command number from 0, which is no command.
+const LENGTHS: [usize; 11] = [1, 9, 5, 7, 8, 8, 8, 8, 7, 8, 5];
 
 // A policy's name, and a blank.
 fn write_policy(policy: u8, at: usize, out: &mut [u8]) -> usize
@@ -23,24 +27,30 @@ fn write_policy(policy: u8, at: usize, out: &mut [u8]) -> usize
     }
 }
 
-// A command's name, by its number, and a blank.
+// The row of a command's name: its number; row 0, an empty name, for a number of no command.
+fn row_of(number: u8) -> usize
+    ensures { λ r. ⌜ (r < 11) × (command-name r ≡ command-name number) ⌝ }
+{
+    if 10 < number {
+        return 0;
+    }
+    number as usize
+}
+
+// A command's name, by its number, and a blank: a part of the table of names, which has nine bytes to a row.
 fn write_name(number: u8, at: usize, out: &mut [u8]) -> usize
     requires { ⌜ at + 9 ≤ length (now out) ⌝ }
     ensures { λ r. ⌜ Wrote 9 (command-name number ++ 32 ∷ []) (now (out .entry)) at (now (out .exit)) r ⌝ }
 {
-    match number {
-        1 => write_bytes(b"GENERATE ", at, out),
-        2 => write_bytes(b"WRAP ", at, out),
-        3 => write_bytes(b"UNWRAP ", at, out),
-        4 => write_bytes(b"ENCRYPT ", at, out),
-        5 => write_bytes(b"DECRYPT ", at, out),
-        6 => write_bytes(b"CORRUPT ", at, out),
-        7 => write_bytes(b"DESTROY ", at, out),
-        8 => write_bytes(b"OWNKEY ", at, out),
-        9 => write_bytes(b"OWNDATA ", at, out),
-        10 => write_bytes(b"SEAL ", at, out),
-        _ => write_bytes(b" ", at, out),
-    }
+    let row = row_of(number);
+    let long = LENGTHS[row];
+    write_part(
+        b"         GENERATE WRAP     UNWRAP   ENCRYPT  DECRYPT  CORRUPT  DESTROY  OWNKEY   OWNDATA  SEAL     ",
+        9 * row,
+        long,
+        at,
+        out,
+    )
 }
 
 // The first line: policy and count.

@@ -1,46 +1,15 @@
-// The known keys of a token's table: how many there are, and their lines.
+// The lines of the known keys of a token's table.
 ghost use Prim.Native.Nat.{_+_, _*_, _≤_};
-ghost use mathlib.Core.Path.{_≡_};
 ghost use lib.ListN.{length};
-ghost use Rattle.token.specs.Known.{is-marked, marked-keys};
 ghost use Rattle.text.specs.Text.{key-line};
 ghost use Rattle.text.specs.Printing.{own-word, marked-line, marked-lines};
 ghost use Rattle.text.specs.Writing.{Wrote};
 use crate::append::write_bytes;
 use crate::append::write_number;
 use shapes::Entry;
-use shapes::Term;
 use shapes::entries::key_of;
 use token::Table;
-
-// Is this the entry of a known key?
-fn is_known(entry: Entry) -> bool
-    ensures { λ r. ⌜ r ≡ is-marked entry ⌝ }
-{
-    let term = entry.term;
-    let marks = entry.marks;
-    match term {
-        Term::Data => false,
-        Term::Key(k) => marks.held,
-        Term::Seal(k, p) => false,
-    }
-}
-
-// How many keys are known.
-pub fn count_known(table: Table) -> u16
-    ensures { λ r. ⌜ r ≡ length (marked-keys (table .entries)) ⌝ }
-{
-    let mut count: u16 = 0;
-    let mut i: usize = 0;
-    while i < 1024 {
-        let entry = table.entries[i];
-        i += 1;
-        if is_known(entry) {
-            count += 1;
-        }
-    }
-    count
-}
+use token::known::is_known;
 
 // A key's line: its number, and where it comes from.
 fn write_key(k: u16, own: bool, at: usize, out: &mut [u8]) -> usize

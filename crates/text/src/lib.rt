@@ -12,7 +12,6 @@ ghost use Rattle.text.specs.Writing.{Wrote, Printed, TextWritten};
 use append::write_bytes;
 use append::write_number;
 use counting::tally_of;
-use keys::count_known;
 use keys::write_keys;
 use lines::write_first;
 use lines::write_known;
@@ -20,7 +19,8 @@ use lines::write_lines;
 use lines::write_tally;
 use reader::Checked;
 use running::run;
-use token::Table;
+use token::Token;
+use token::known::known_count;
 
 // How many commands were answered 0, and how many were not.
 pub struct Tally {
@@ -34,38 +34,39 @@ fn write_text(
     policy: u8,
     n: u16,
     records: &[u8; 12288],
-    table: Table,
+    token: Token,
     out: &mut [u8],
 ) -> usize
     requires { ⌜ (n ≤ 4096) × (3 + 3 * n ≤ length (now sheet)) × (131072 ≤ length (now out)) ⌝ }
     ensures { λ r.
-        ⌜ Wrote 131072 (run-text policy (now (sheet .entry)) n (now (records .entry)) (table .entries))
+        ⌜ Wrote 131072 (run-text policy (now (sheet .entry)) n (now (records .entry)) (token .table .entries))
         (now (out .entry)) 0 (now (out .exit)) r ⌝ }
 {
     let a = write_first(policy, n, 0, out);
     let b = write_lines(sheet, n, records, a, out);
     let tally = tally_of(records, n);
     let c = write_tally(tally, b, out);
-    let count = count_known(table);
+    let count = known_count(token);
     let d = write_known(count, c, out);
+    let table = token.table;
     write_keys(table, d, out)
 }
 
-// The text of a run: of the sheet's n commands with their records, three bytes each, and of the token's table at the end.
+// The text of a run: of the sheet's n commands with their records, three bytes each, and of the token at the end.
 fn write_run(
     sheet: &[u8],
     policy: u8,
     n: u16,
     records: &[u8; 12288],
-    table: Table,
+    token: Token,
     out: &mut [u8; 131072],
 ) -> usize
     requires { ⌜ (n ≤ 4096) × (3 + 3 * n ≤ length (now sheet)) ⌝ }
     ensures { λ r.
-        ⌜ Printed (run-text policy (now (sheet .entry)) n (now (records .entry)) (table .entries))
+        ⌜ Printed (run-text policy (now (sheet .entry)) n (now (records .entry)) (token .table .entries))
         (now (out .entry)) (now (out .exit)) r ⌝ }
 {
-    write_text(sheet, policy, n, records, table, out)
+    write_text(sheet, policy, n, records, token, out)
 }
 
 // The one line of a malformed sheet, into a slice.
@@ -91,10 +92,11 @@ pub fn text_of(sheet: &[u8], out: &mut [u8; 131072]) -> usize
     let mut records = [0u8; 12288];
     let ran = run(sheet, &mut records);
     let checked = ran.checked;
-    let token = ran.token;
-    let table = token.table;
     match checked {
         Checked::Malformed(place) => write_malformed(place, out),
-        Checked::Good(policy, n) => write_run(sheet, policy, n, &records, table, out),
+        Checked::Good(policy, n) => {
+            let token = ran.token;
+            write_run(sheet, policy, n, &records, token, out)
+        }
     }
 }

@@ -16,7 +16,8 @@ use shapes::KeyNo;
 use shapes::Term;
 use shapes::entries::key_of;
 
-fn marked(entry: Entry) -> bool
+// Is this the entry of a known key?
+pub fn is_known(entry: Entry) -> bool
     ensures { λ r. ⌜ r ≡ is-marked entry ⌝ }
 {
     let term = entry.term;
@@ -38,7 +39,7 @@ pub fn known_count(token: Token) -> u16
     while i < 1024 {
         let entry = table.entries[i];
         i += 1;
-        if marked(entry) {
+        if is_known(entry) {
             count += 1;
         }
     }
@@ -55,7 +56,7 @@ fn write_keys(table: Table, out: &mut [u8])
     while i < 1024 {
         let entry = table.entries[i];
         i += 1;
-        if marked(entry) {
+        if is_known(entry) {
             let k = key_of(entry).0;
             out[at] = (k / 256) as u8;
             out[at + 1] = (k % 256) as u8;

@@ -18,15 +18,15 @@ enum-known-checked-2 c = search needs
 
 write-run-requires : tie.Need-write-run-requires
 write-run-requires c κs =
-    run-asks (c .before .before .before .before .before .before .before .run .ensures) (c .before .before .before .checked2 .given .1)
+    run-asks (c .before .before .before .before .before .before .run .ensures) (c .before .before .before .before .checked2 .given .1)
 
 returns : tie.Need-returns
 returns c =
-    malformed-told (c .before .before .before .before .before .before .before .run .ensures) (c .before .before .before .checked .given .1) (c .write-malformed .ensures)
+    malformed-told (c .before .before .before .before .before .run .ensures) (c .before .before .before .checked .given .1) (c .write-malformed .ensures)
 
 returns-2 : tie.Need-returns-2
 returns-2 c =
-    run-told (c .before .before .before .before .before .before .before .before .run .ensures) (c .before .before .before .before .checked2 .given .1) (c .write-run .ensures)
+    run-told (c .before .before .before .before .before .before .before .run .ensures) (c .before .before .before .before .before .checked2 .given .1) (c .write-run .ensures)
 
 pub text-of-spec : {M : Type 1} → statement M
 text-of-spec =

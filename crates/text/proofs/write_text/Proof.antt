@@ -16,8 +16,8 @@ tally-of-requires c κs = search needs
 write-tally-requires : tie.Need-write-tally-requires
 write-tally-requires c κs = search needs
 
-count-known-requires : tie.Need-count-known-requires
-count-known-requires c κs = search needs
+known-count-requires : tie.Need-known-count-requires
+known-count-requires c κs = search needs
 
 write-known-requires : tie.Need-write-known-requires
 write-known-requires c κs = search needs
@@ -30,16 +30,8 @@ same-length c = search needs
 
 returns : tie.Need-returns
 returns c =
-    let c2 = c .before .before in
-    let c6 = c2 .before .before .before .before in
-    let c8 = c6 .before .before in
-    let c11 = c8 .before .before .before in
-    let c13 = c11 .before .before in
-    let c16 = c13 .before .before .before in
-    let c20 = c16 .before .before .before .before in
-    let c24 = c20 .before .before .before .before in
-    wrote-run _ _ _ _ _ (c24 .pre .0) (c20 .write-first .ensures) (c16 .write-lines .ensures) (c13 .tally-of .ensures)
-    (c11 .write-tally .ensures) (c8 .count-known .ensures) (c6 .write-known .ensures) (c2 .write-keys .ensures)
+    wrote-run _ _ _ _ _ (c .before .before .before .before .before .before .before .before .before .before .before .before .before .before .before .before .before .before .before .before .before .before .before .before .before .pre .0) (c .before .before .before .before .before .before .before .before .before .before .before .before .before .before .before .before .before .before .before .before .before .write-first .ensures) (c .before .before .before .before .before .before .before .before .before .before .before .before .before .before .before .before .before .write-lines .ensures) (c .before .before .before .before .before .before .before .before .before .before .before .before .before .before .tally-of .ensures)
+    (c .before .before .before .before .before .before .before .before .before .before .before .before .write-tally .ensures) (c .before .before .before .before .before .before .before .before .before .known-count .ensures) (c .before .before .before .before .before .before .before .write-known .ensures) (c .before .before .write-keys .ensures)
 
 pub write-text-spec : {M : Type 1} → statement M
 write-text-spec =
@@ -49,7 +41,7 @@ write-text-spec =
     write-lines-requires
     tally-of-requires
     write-tally-requires
-    count-known-requires
+    known-count-requires
     write-known-requires
     write-keys-requires
     same-length

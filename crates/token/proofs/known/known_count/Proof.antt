@@ -29,8 +29,8 @@ element-copy-out-entry c = search needs
 add-i : tie.Need-add-i Inv-loop μ-loop
 add-i c = search needs
 
-marked-requires : tie.Need-marked-requires Inv-loop μ-loop
-marked-requires c κs = search needs
+is-known-requires : tie.Need-is-known-requires Inv-loop μ-loop
+is-known-requires c κs = search needs
 
 add-count : tie.Need-add-count Inv-loop μ-loop
 add-count c = search needs
@@ -44,7 +44,7 @@ loop-again c =
     let c3 = c1 .before .before in
     let c4 = c3 .before in
     let c6 = c4 .before .before in
-    counted-one _ _ _ (whole (c6)) (c4 .loop .inv) (c3 .loop-test .taken) (sym (c1 .marked .ensures) ∙ c .if1 .taken)
+    counted-one _ _ _ (whole (c6)) (c4 .loop .inv) (c3 .loop-test .taken) (sym (c1 .is-known .ensures) ∙ c .if1 .taken)
 
 loop-less-2 : tie.Need-loop-less-2 Inv-loop μ-loop
 loop-less-2 c = search needs
@@ -55,7 +55,7 @@ loop-again-2 c =
     let c3 = c1 .before .before in
     let c4 = c3 .before in
     let c6 = c4 .before .before in
-    counted-other _ _ _ (whole (c6)) (c4 .loop .inv) (c3 .loop-test .taken) (sym (c1 .marked .ensures) ∙ c .if1 .left)
+    counted-other _ _ _ (whole (c6)) (c4 .loop .inv) (c3 .loop-test .taken) (sym (c1 .is-known .ensures) ∙ c .if1 .left)
 
 returns : tie.Need-returns Inv-loop μ-loop
 returns c = counted-all _ _ _ (whole (c .before .before .before)) (c .before .loop .inv) (c .loop-test .left)
@@ -70,7 +70,7 @@ known-count-spec =
     mul-entry
     element-copy-out-entry
     add-i
-    marked-requires
+    is-known-requires
     add-count
     loop-less
     loop-again

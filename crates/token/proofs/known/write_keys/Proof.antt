@@ -30,8 +30,8 @@ element-copy-out-entry c = search needs
 add-i : tie.Need-add-i Inv-loop μ-loop
 add-i c = search needs
 
-marked-requires : tie.Need-marked-requires Inv-loop μ-loop
-marked-requires c κs = search needs
+is-known-requires : tie.Need-is-known-requires Inv-loop μ-loop
+is-known-requires c κs = search needs
 
 key-of-requires : tie.Need-key-of-requires Inv-loop μ-loop
 key-of-requires c κs = search needs
@@ -45,7 +45,7 @@ room c =
     let c4 = c2 .before .before in
     let c5 = c4 .before in
     let c7 = c5 .before .before in
-    writing-room _ _ _ _ _ (whole (c7)) (c5 .loop .inv) (c4 .loop-test .taken) (sym (c2 .marked .ensures) ∙ c1 .if1 .taken)
+    writing-room _ _ _ _ _ (whole (c7)) (c5 .loop .inv) (c4 .loop-test .taken) (sym (c2 .is-known .ensures) ∙ c1 .if1 .taken)
 
 cast-out : tie.Need-cast-out Inv-loop μ-loop
 cast-out c = search needs
@@ -75,7 +75,7 @@ loop-again c =
     let c4 = c2 .before .before in
     let c5 = c4 .before in
     let c7 = c5 .before .before in
-    writing-one _ _ _ _ _ (whole (c7)) (c5 .loop .inv) (c4 .loop-test .taken) (sym (c2 .marked .ensures) ∙ c1 .if1 .taken)
+    writing-one _ _ _ _ _ (whole (c7)) (c5 .loop .inv) (c4 .loop-test .taken) (sym (c2 .is-known .ensures) ∙ c1 .if1 .taken)
     _ (ap (λ k. k .0) (c .key-of .ensures))
 
 loop-less-2 : tie.Need-loop-less-2 Inv-loop μ-loop
@@ -87,7 +87,7 @@ loop-again-2 c =
     let c3 = c1 .before .before in
     let c4 = c3 .before in
     let c6 = c4 .before .before in
-    writing-other _ _ _ _ _ (whole (c6)) (c4 .loop .inv) (c3 .loop-test .taken) (sym (c1 .marked .ensures) ∙ c .if1 .left)
+    writing-other _ _ _ _ _ (whole (c6)) (c4 .loop .inv) (c3 .loop-test .taken) (sym (c1 .is-known .ensures) ∙ c .if1 .left)
 
 same-length : tie.Need-same-length Inv-loop μ-loop
 same-length c = c .before .loop .inv .same-length
@@ -105,7 +105,7 @@ write-keys-spec =
     mul-entry
     element-copy-out-entry
     add-i
-    marked-requires
+    is-known-requires
     key-of-requires
     cast-out
     slice-write-out

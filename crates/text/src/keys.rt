@@ -1,15 +1,20 @@
-// The lines of the known keys of a token's table.
+// How many keys of a token are known, and their lines.
 ghost use Prim.Native.Nat.{_+_, _*_, _≤_};
+ghost use mathlib.Core.List.{_++_};
 ghost use lib.ListN.{length};
-ghost use Rattle.text.specs.Text.{key-line};
+ghost use Rattle.token.specs.Known.{marked-keys};
+ghost use Rattle.text.specs.Text.{known-line, key-line};
 ghost use Rattle.text.specs.Printing.{own-word, marked-line, marked-lines};
 ghost use Rattle.text.specs.Writing.{Wrote};
 use crate::append::write_bytes;
 use crate::append::write_number;
+use crate::lines::write_known;
 use shapes::Entry;
 use shapes::entries::key_of;
 use token::Table;
+use token::Token;
 use token::known::is_known;
+use token::known::known_count;
 
 // A key's line: its number, and where it comes from.
 fn write_key(k: u16, own: bool, at: usize, out: &mut [u8]) -> usize
@@ -37,7 +42,7 @@ fn write_entry(entry: Entry, at: usize, out: &mut [u8]) -> usize
 }
 
 // The lines of the known keys.
-pub fn write_keys(table: Table, at: usize, out: &mut [u8]) -> usize
+fn write_keys(table: Table, at: usize, out: &mut [u8]) -> usize
     requires { ⌜ at + 20480 ≤ length (now out) ⌝ }
     ensures { λ r. ⌜ Wrote 20480 (marked-lines (table .entries)) (now (out .entry)) at (now (out .exit)) r ⌝ }
 {
@@ -49,4 +54,17 @@ pub fn write_keys(table: Table, at: usize, out: &mut [u8]) -> usize
         i += 1;
     }
     to
+}
+
+// How many keys are known, and their lines.
+pub fn write_known_keys(token: Token, at: usize, out: &mut [u8]) -> usize
+    requires { ⌜ at + 20492 ≤ length (now out) ⌝ }
+    ensures { λ r.
+        ⌜ Wrote 20492 (known-line (length (marked-keys (token .table .entries))) ++ marked-lines (token .table .entries))
+        (now (out .entry)) at (now (out .exit)) r ⌝ }
+{
+    let count = known_count(token);
+    let a = write_known(count, at, out);
+    let table = token.table;
+    write_keys(table, a, out)
 }

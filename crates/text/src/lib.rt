@@ -5,22 +5,22 @@ mod keys;
 mod lines;
 
 ghost use Prim.Native.Nat.{_+_, _*_, _≤_};
+ghost use mathlib.Core.List.{_++_};
 ghost use lib.ListN.{length};
-ghost use Rattle.text.specs.Text.{malformed-text};
-ghost use Rattle.text.specs.Printing.{run-text};
+ghost use Rattle.sheets.specs.Reading.{read-policy};
+ghost use Rattle.text.specs.Text.{first-line, tally-line, malformed-text};
+ghost use Rattle.text.specs.Printing.{entry-lines, tally-of, run-text};
 ghost use Rattle.text.specs.Writing.{Wrote, Printed, TextWritten};
 use append::write_bytes;
 use append::write_number;
 use counting::tally_of;
-use keys::write_keys;
+use keys::write_known_keys;
 use lines::write_first;
-use lines::write_known;
 use lines::write_lines;
 use lines::write_tally;
 use reader::Checked;
 use running::run;
 use token::Token;
-use token::known::known_count;
 
 // How many commands were answered 0, and how many were not.
 pub struct Tally {
@@ -28,28 +28,19 @@ pub struct Tally {
     pub refused: u16,
 }
 
-// The lines of a run, one after another.
-fn write_text(
-    sheet: &[u8],
-    policy: u8,
-    n: u16,
-    records: &[u8; 12288],
-    token: Token,
-    out: &mut [u8],
-) -> usize
-    requires { ⌜ (n ≤ 4096) × (3 + 3 * n ≤ length (now sheet)) × (131072 ≤ length (now out)) ⌝ }
+// The lines of a run's policy, of its commands and of the tally.
+fn write_commands(sheet: &[u8], policy: u8, n: u16, records: &[u8; 12288], out: &mut [u8]) -> usize
+    requires { ⌜ (n ≤ 4096) × (3 + 3 * n ≤ length (now sheet)) × (53 + 25 * n ≤ length (now out)) ⌝ }
     ensures { λ r.
-        ⌜ Wrote 131072 (run-text policy (now (sheet .entry)) n (now (records .entry)) (token .table .entries))
+        ⌜ Wrote (53 + 25 * n)
+        (first-line (read-policy policy) n ++ entry-lines (now (sheet .entry)) (now (records .entry)) n
+        ++ tally-line (tally-of (now (records .entry)) n))
         (now (out .entry)) 0 (now (out .exit)) r ⌝ }
 {
     let a = write_first(policy, n, 0, out);
     let b = write_lines(sheet, n, records, a, out);
     let tally = tally_of(records, n);
-    let c = write_tally(tally, b, out);
-    let count = known_count(token);
-    let d = write_known(count, c, out);
-    let table = token.table;
-    write_keys(table, d, out)
+    write_tally(tally, b, out)
 }
 
 // The text of a run: of the sheet's n commands with their records, three bytes each, and of the token at the end.
@@ -66,7 +57,8 @@ fn write_run(
         ⌜ Printed (run-text policy (now (sheet .entry)) n (now (records .entry)) (token .table .entries))
         (now (out .entry)) (now (out .exit)) r ⌝ }
 {
-    write_text(sheet, policy, n, records, token, out)
+    let a = write_commands(sheet, policy, n, records, out);
+    write_known_keys(token, a, out)
 }
 
 // The one line of a malformed sheet, into a slice.

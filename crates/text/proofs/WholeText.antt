@@ -19,10 +19,11 @@ known-keys-text entries = known-line (length (marked-keys entries)) ++ marked-li
 
 pub wrote-known-keys : (entries : List Entry) {m : ℕ} {before known after : List ℕ} {at next end : ℕ}
     → m ≡ length (marked-keys entries)
-    → Wrote 12 (known-line m) before at known next
+    → Wrote 12 (word "known " ++ (decimal m ++ 10 ∷ [])) before at known next
     → Wrote 20480 (marked-lines entries) known next after end
     → Wrote 20492 (known-keys-text entries) before at after end
-wrote-known-keys entries count one two = wrote-then (wrote-as (ap known-line count) one) two
+unfolding known-line line word
+wrote-known-keys entries {m} count one two = wrote-then (wrote-as (ap known-line count) one) two
 
 -- the first line, the commands' lines and the tally; and the whole text of a run
 module _ (policy : ℕ) (s : List ℕ) (n : ℕ) (records : List ℕ) where
@@ -49,10 +50,9 @@ module _ (policy : ℕ) (s : List ℕ) (n : ℕ) (records : List ℕ) where
       let joined = sym (append-assoc commands-text (known-line (length (marked-keys entries))) (marked-lines entries)) in
       wrote-all (omega arith) (wrote-as joined (wrote-then one two))
 
--- the words `refused 12 place`, and the place
-pub wrote-refused : (place : ℕ) {m n : ℕ} {before middle after : List ℕ} {at next end : ℕ}
-    → Wrote m (word "refused 12 place ") before at middle next
-    → Wrote n (decimal place ++ 10 ∷ []) middle next after end
-    → Wrote (m + n) (malformed-text place) before at after end
+-- the words `refused 12 place`, and the place, at the buffer's front
+pub wrote-refused : (place : ℕ) {before after : List ℕ} {end : ℕ}
+    → Wrote 23 (word "refused 12 place " ++ (decimal place ++ 10 ∷ [])) before 0 after end
+    → Printed (malformed-text place) before after end
 unfolding malformed-text line word decimal digits
-wrote-refused place one two = wrote-as refl (wrote-then one two)
+wrote-refused place w = wrote-all (omega arith) w

@@ -52,3 +52,14 @@ pub fn write_number(x: u16, after: u8, at: usize, out: &mut [u8]) -> usize
     out[end] = after;
     end + 1
 }
+
+// A word with its blank, the number of which it tells, and the blank or line feed behind that.
+pub fn write_told(word: &[u8], x: u16, after: u8, at: usize, out: &mut [u8]) -> usize
+    requires { ⌜ at + (length (now word) + 6) ≤ length (now out) ⌝ }
+    ensures { λ r.
+        ⌜ Wrote (length (now (word .entry)) + 6) (now (word .entry) ++ (decimal x ++ after ∷ []))
+        (now (out .entry)) at (now (out .exit)) r ⌝ }
+{
+    let a = write_bytes(word, at, out);
+    write_number(x, after, a, out)
+}

@@ -11,8 +11,7 @@ ghost use Rattle.sheets.specs.Reading.{read-policy};
 ghost use Rattle.text.specs.Text.{first-line, tally-line, malformed-text};
 ghost use Rattle.text.specs.Printing.{entry-lines, tally-of, run-text};
 ghost use Rattle.text.specs.Writing.{Wrote, Printed, TextWritten};
-use append::write_bytes;
-use append::write_number;
+use append::write_told;
 use counting::tally_of;
 use keys::write_known_keys;
 use lines::write_first;
@@ -61,20 +60,11 @@ fn write_run(
     write_known_keys(token, a, out)
 }
 
-// The one line of a malformed sheet, into a slice.
-fn write_refused(place: u16, out: &mut [u8]) -> usize
-    requires { ⌜ 23 ≤ length (now out) ⌝ }
-    ensures { λ r. ⌜ Wrote 23 (malformed-text place) (now (out .entry)) 0 (now (out .exit)) r ⌝ }
-{
-    let a = write_bytes(b"refused 12 place ", 0, out);
-    write_number(place, 10, a, out)
-}
-
 // The text of a malformed sheet.
 fn write_malformed(place: u16, out: &mut [u8; 131072]) -> usize
     ensures { λ r. ⌜ Printed (malformed-text place) (now (out .entry)) (now (out .exit)) r ⌝ }
 {
-    write_refused(place, out)
+    write_told(b"refused 12 place ", place, 10, 0, out)
 }
 
 // The text of any sheet: it is checked, run from a fresh token under its policy where it is good, and what is printed for it written.

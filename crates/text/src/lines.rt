@@ -4,13 +4,14 @@ ghost use mathlib.Core.Path.{_≡_};
 ghost use mathlib.Core.List.{_∷_, [], _++_};
 ghost use lib.ListN.{length};
 ghost use Rattle.sheets.specs.Reading.{read-policy};
-ghost use Rattle.text.specs.Text.{policy-name, command-name, first-line, command-line, tally-line, known-line};
+ghost use Rattle.text.specs.Text.{policy-name, command-name, first-line, command-line, tally-line};
 ghost use Rattle.text.specs.Printing.{entry-lines, as-tally};
 ghost use Rattle.text.specs.Writing.{Wrote};
 use crate::Tally;
 use crate::append::write_bytes;
 use crate::append::write_number;
 use crate::append::write_part;
+use crate::append::write_told;
 
 // How long a command's name is with the blank behind it, by command number from 0, which is no command.
 const LENGTHS: [usize; 11] = [1, 9, 5, 7, 8, 8, 8, 8, 7, 8, 5];
@@ -60,8 +61,7 @@ pub fn write_first(policy: u8, n: u16, at: usize, out: &mut [u8]) -> usize
 {
     let a = write_bytes(b"policy ", at, out);
     let b = write_policy(policy, a, out);
-    let c = write_bytes(b"commands ", b, out);
-    write_number(n, 10, c, out)
+    write_told(b"commands ", n, 10, b, out)
 }
 
 // A command's line: position, name, answer, value.
@@ -107,17 +107,6 @@ pub fn write_tally(t: Tally, at: usize, out: &mut [u8]) -> usize
     requires { ⌜ at + 25 ≤ length (now out) ⌝ }
     ensures { λ r. ⌜ Wrote 25 (tally-line (as-tally t)) (now (out .entry)) at (now (out .exit)) r ⌝ }
 {
-    let a = write_bytes(b"done ", at, out);
-    let b = write_number(t.done, 32, a, out);
-    let c = write_bytes(b"refused ", b, out);
-    write_number(t.refused, 10, c, out)
-}
-
-// How many keys are known.
-pub fn write_known(m: u16, at: usize, out: &mut [u8]) -> usize
-    requires { ⌜ at + 12 ≤ length (now out) ⌝ }
-    ensures { λ r. ⌜ Wrote 12 (known-line m) (now (out .entry)) at (now (out .exit)) r ⌝ }
-{
-    let a = write_bytes(b"known ", at, out);
-    write_number(m, 10, a, out)
+    let a = write_told(b"done ", t.done, 32, at, out);
+    write_told(b"refused ", t.refused, 10, a, out)
 }

@@ -1,15 +1,19 @@
--- `write_malformed` meets its contract: the line begins at the buffer's front (Placed).
-use native.Mathlib.Omega.{arith}
-use Rattle.text.proofs.Placed.{wrote-all}
+-- `write_malformed` meets its contract: the words, and the place (WholeText).
+use Rattle.text.specs.Text.{word}
+use Rattle.text.proofs.WholeText.{wrote-refused}
 use borrow.Author.Needs.{needs}
 use Rattle.text.proofs.write_malformed.Statement.{statement}
 use Rattle.text.proofs.write_malformed.Tie as tie
 
-write-refused-requires : tie.Need-write-refused-requires
-write-refused-requires c κs = search needs
+slice-aggregate-write-told : tie.Need-slice-aggregate-write-told
+slice-aggregate-write-told c = search needs
+
+write-told-requires : tie.Need-write-told-requires
+write-told-requires c κs = search needs
 
 returns : tie.Need-returns
-returns c = wrote-all (omega arith) (c .write-refused .ensures)
+unfolding word
+returns c = wrote-refused _ (c .write-told .ensures)
 
 pub write-malformed-spec : {M : Type 1} → statement M
-write-malformed-spec = tie.close (tie.spec write-refused-requires returns)
+write-malformed-spec = tie.close (tie.spec slice-aggregate-write-told write-told-requires returns)

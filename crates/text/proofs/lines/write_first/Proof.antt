@@ -1,6 +1,6 @@
 -- `write_first` meets its contract, word by word (WordByWord).
 use Rattle.text.specs.Text.{word, first-line}
-use Rattle.text.proofs.WordByWord.{wrote-next, wrote-end}
+use Rattle.text.proofs.WordByWord.{wrote-next, wrote-told-end}
 use borrow.Author.Needs.{needs}
 use Rattle.text.proofs.lines.write_first.Statement.{statement}
 use Rattle.text.proofs.lines.write_first.Tie as tie
@@ -14,14 +14,11 @@ write-bytes-requires c κs = search needs
 write-policy-requires : tie.Need-write-policy-requires
 write-policy-requires c κs = search needs
 
-slice-aggregate-write-bytes-2 : tie.Need-slice-aggregate-write-bytes-2
-slice-aggregate-write-bytes-2 c = search needs
+slice-aggregate-write-told : tie.Need-slice-aggregate-write-told
+slice-aggregate-write-told c = search needs
 
-write-bytes-requires-2 : tie.Need-write-bytes-requires-2
-write-bytes-requires-2 c κs = search needs
-
-write-number-requires : tie.Need-write-number-requires
-write-number-requires c κs = search needs
+write-told-requires : tie.Need-write-told-requires
+write-told-requires c κs = search needs
 
 same-length : tie.Need-same-length
 same-length c = search needs
@@ -29,13 +26,7 @@ same-length c = search needs
 returns : tie.Need-returns
 unfolding first-line word
 returns c =
-    let c2 = c .before .before in
-    let c6 = c2 .before .before .before .before in
-    let c11 = c6 .before .before .before .before .before in
-    let c15 = c11 .before .before .before .before in
-    wrote-next _ _ _ (c15 .write-bytes .ensures)
-    (wrote-next _ _ _ (c11 .write-policy .ensures)
-    (wrote-next _ _ _ (c6 .write-bytes2 .ensures) (wrote-end _ (c2 .write-number .ensures))))
+    wrote-next _ _ _ (c .before .before .before .before .before .before .before .before .before .before .before .write-bytes .ensures) (wrote-next _ _ _ (c .before .before .before .before .before .before .before .write-policy .ensures) (wrote-told-end _ _ (c .before .before .write-told .ensures)))
 
 pub write-first-spec : {M : Type 1} → statement M
 write-first-spec =
@@ -44,8 +35,7 @@ write-first-spec =
     slice-aggregate-write-bytes
     write-bytes-requires
     write-policy-requires
-    slice-aggregate-write-bytes-2
-    write-bytes-requires-2
-    write-number-requires
+    slice-aggregate-write-told
+    write-told-requires
     same-length
     returns)

@@ -1,4 +1,4 @@
--- From the ground up: bytes placed in a buffer, numbers in decimal, a line word by word, the table of names, the lines of commands and of keys, the
+-- From the ground up: bytes placed in a buffer, numbers in decimal, a line word by word, the tables of names, the lines of commands and of keys, the
 -- tally, the whole text; then that the text computed is the text of document 01, and that every byte string has one text.
 pub mod Placed
 pub mod Decimals

@@ -1,4 +1,5 @@
--- The text of a sheet, of what running it leaves; and that two results of writing it are equal. Rests on Printed and on the token's
+-- The text of a sheet, of what running it leaves; that two results of writing it are equal, and that
+-- it lies inside the buffer. Rests on Printed and on the run's
 -- RunTold.
 use Prim.Native.Nat.{ℕ, _+_, _*_, _≤_}
 use native.Mathlib.Omega.{arith}
@@ -8,6 +9,7 @@ use lib.ListN.{length}
 use Rattle.sheets.specs.Sheets.{most-commands, bodies-begin}
 use Rattle.sheets.specs.Faults.{count}
 use Rattle.sheets.specs.Calls.{over}
+use Rattle.sheets.proofs.Calls.{over-length}
 use Rattle.sheets.proofs.Faultless.{none-faultless}
 use Rattle.reader.specs.declared.Checked.the-variants.{Good, Malformed}
 use Rattle.reader.proofs.GoodEntries.{checked-good}
@@ -53,4 +55,15 @@ text-unique {before = before} p q =
     let same = prints-unique (p .prints) (q .prints) in (
       p .printed .how-long ∙ ap length same ∙ sym (q .printed .how-long),
       p .printed .written ∙ ap (λ (t : List ℕ). over t before) same ∙ sym (q .printed .written),
+    )
+
+-- the text lies inside the buffer that it is written into
+pub text-inside : {s before after : List ℕ} {long : ℕ} → TextWritten s before after long → long ≤ length after
+text-inside {before} w =
+    let printed = w .printed in
+    omega (
+      arith,
+      printed .how-long,
+      printed .fits,
+      ap length (printed .written) ∙ over-length (w .the-text) before (printed .fits),
     )

@@ -1,13 +1,11 @@
--- A line written word by word, each with the blank or the line feed behind it; and a policy's name. Rests on Placed and
+-- A line written word by word, each with the blank or the line feed behind it. Rests on Placed and
 -- Decimals.
-use Prim.Native.Nat.{ℕ, zero, suc, _+_, _≤_, _<_}
+use Prim.Native.Nat.{ℕ, _+_, _<_}
 use native.Mathlib.Omega.{arith}
-use mathlib.Core.Path.{_≡_, refl, sym, ap, _∙_}
+use mathlib.Core.Path.{ap, _∙_}
 use mathlib.Core.List.{List, [], _∷_, _++_, append-assoc}
 use lib.ListN.{length, length-append}
-use Rattle.rules.specs.Templates.{Policy, plain, stp, stp+}
-use Rattle.sheets.specs.Reading.{read-policy}
-use Rattle.text.specs.Text.{word, decimal, line, policy-name}
+use Rattle.text.specs.Text.{decimal, line}
 use Rattle.text.specs.Writing.{Wrote}
 use Rattle.text.proofs.Placed.{wrote-then, wrote-few, wrote-as}
 use Rattle.text.proofs.Decimals.{decimal-3}
@@ -48,32 +46,3 @@ module _ (w : List ℕ) (x : ℕ) where
 pub wrote-answer : (x after : ℕ) → x < 256 → {m : ℕ} {before middle : List ℕ} {at end : ℕ}
     → Wrote m (decimal x ++ after ∷ []) before at middle end → Wrote 4 (decimal x ++ after ∷ []) before at middle end
 wrote-answer x after small w = wrote-few 4 (omega (arith, length-append (decimal x) (after ∷ []), decimal-3 x small)) w
-
--- a policy's name, and a blank; the third policy has every number but 0 and 1
-policy-most : (p : Policy) → length (policy-name p) ≤ 5
-unfolding policy-name word
-policy-most plain = omega arith
-policy-most stp = omega arith
-policy-most stp+ = omega arith
-
-pub wrote-policy : (policy : ℕ) (p : Policy) → read-policy policy ≡ p → {m : ℕ} {before after : List ℕ} {at end : ℕ}
-    → Wrote m (policy-name p ++ 32 ∷ []) before at after end
-    → Wrote 6 (policy-name (read-policy policy) ++ 32 ∷ []) before at after end
-wrote-policy policy p e w =
-    wrote-few 6
-    (omega (arith, length-append (policy-name (read-policy policy)) (32 ∷ []), policy-most (read-policy policy)))
-    (wrote-as (ap (λ (q : Policy). policy-name q ++ 32 ∷ []) (sym e)) w)
-
-pub first-policy : (policy : ℕ) → policy ≡ 0 → read-policy policy ≡ plain
-unfolding read-policy
-first-policy policy e = ap read-policy e
-
-pub second-policy : (policy : ℕ) → policy ≡ 1 → read-policy policy ≡ stp
-unfolding read-policy
-second-policy policy e = ap read-policy e
-
-pub third-policy : (policy : ℕ) → (policy ≡ 0 → ⊥) → (policy ≡ 1 → ⊥) → read-policy policy ≡ stp+
-unfolding read-policy
-third-policy zero f g = absurd (f refl)
-third-policy (suc zero) f g = absurd (g refl)
-third-policy (suc (suc n)) f g = refl

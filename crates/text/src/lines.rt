@@ -13,23 +13,34 @@ use crate::append::write_number;
 use crate::append::write_part;
 use crate::append::write_told;
 
-// How long a command's name is with the blank behind it, by command number from 0, which is no command.
-const LENGTHS: [usize; 11] = [1, 9, 5, 7, 8, 8, 8, 8, 7, 8, 5];
+// How long a policy's name is with the blank behind it, by policy number.
+const POLICY_LENGTHS: [usize; 3] = [6, 4, 5];
 
-// A policy's name, and a blank.
+// The same of a command's name, by command number from 0, which is no command.
+const NAME_LENGTHS: [usize; 11] = [1, 9, 5, 7, 8, 8, 8, 8, 7, 8, 5];
+
+// The row of a policy's name: its number; every number from 2 on stands for the third policy.
+fn policy_row(policy: u8) -> usize
+    ensures { λ r. ⌜ (r < 3) × (read-policy r ≡ read-policy policy) ⌝ }
+{
+    if policy < 2 {
+        return policy as usize;
+    }
+    2
+}
+
+// A policy's name, and a blank: a part of the table of policies, which has six bytes to a row.
 fn write_policy(policy: u8, at: usize, out: &mut [u8]) -> usize
     requires { ⌜ at + 6 ≤ length (now out) ⌝ }
     ensures { λ r. ⌜ Wrote 6 (policy-name (read-policy policy) ++ 32 ∷ []) (now (out .entry)) at (now (out .exit)) r ⌝ }
 {
-    match policy {
-        0 => write_bytes(b"plain ", at, out),
-        1 => write_bytes(b"stp ", at, out),
-        _ => write_bytes(b"stp+ ", at, out),
-    }
+    let row = policy_row(policy);
+    let long = POLICY_LENGTHS[row];
+    write_part(b"plain stp   stp+  ", 6 * row, long, at, out)
 }
 
 // The row of a command's name: its number; row 0, an empty name, for a number of no command.
-fn row_of(number: u8) -> usize
+fn name_row(number: u8) -> usize
     ensures { λ r. ⌜ (r < 11) × (command-name r ≡ command-name number) ⌝ }
 {
     if 10 < number {
@@ -43,8 +54,8 @@ fn write_name(number: u8, at: usize, out: &mut [u8]) -> usize
     requires { ⌜ at + 9 ≤ length (now out) ⌝ }
     ensures { λ r. ⌜ Wrote 9 (command-name number ++ 32 ∷ []) (now (out .entry)) at (now (out .exit)) r ⌝ }
 {
-    let row = row_of(number);
-    let long = LENGTHS[row];
+    let row = name_row(number);
+    let long = NAME_LENGTHS[row];
     write_part(
         b"         GENERATE WRAP     UNWRAP   ENCRYPT  DECRYPT  CORRUPT  DESTROY  OWNKEY   OWNDATA  SEAL     ",
         9 * row,

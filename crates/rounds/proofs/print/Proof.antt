@@ -1,9 +1,6 @@
--- `print` is safe: the text fits the buffer, by what `text_of` promises. Assumes nothing.
-use mathlib.Core.Path.{_≡_, ap, _∙_}
-use native.Mathlib.Omega.{arith}
+-- `print` is safe: the text fits the buffer, by what `text_of` promises (text TextTold). Assumes nothing.
 use borrow.Author.Needs.{needs}
-use lib.ListN.{length}
-use Rattle.sheets.proofs.Calls.{over-length}
+use Rattle.text.proofs.TextTold.{text-inside}
 use Rattle.rounds.proofs.print.Statement.{statement}
 use Rattle.rounds.proofs.print.Tie as tie
 
@@ -17,14 +14,7 @@ part-write-all-start : tie.Need-part-write-all-start
 part-write-all-start c = search needs
 
 part-write-all-end : tie.Need-part-write-all-end
-part-write-all-end c =
-    let wrote = c .before .text-of .ensures in
-    omega (
-      arith,
-      wrote .printed .how-long,
-      wrote .printed .fits,
-      ap length (wrote .printed .written) ∙ over-length (wrote .the-text) _ (wrote .printed .fits),
-    )
+part-write-all-end c = text-inside (c .before .text-of .ensures)
 
 write-all-requires : tie.Need-write-all-requires
 write-all-requires c κs = search needs

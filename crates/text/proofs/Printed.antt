@@ -1,26 +1,22 @@
 -- The text that is computed from what a run leaves behind is the text of that run, and every sheet has one text. Rests on
 -- PrintedLines and PrintedKeys, and on the sheets' and the rules' uniqueness.
-use Prim.Native.Nat.{ℕ, suc, _+_}
-use native.Mathlib.Nat.{zero-add}
+use Prim.Native.Nat.{ℕ, _+_}
 use native.Mathlib.Omega.{arith}
-use mathlib.Core.Path.{_≡_, refl, sym, ap, _∙_, subst, subst₂}
-use mathlib.Core.List.{List, [], _∷_, _++_}
-use mathlib.Core.Option.{some}
+use mathlib.Core.Path.{_≡_, sym, ap, _∙_, subst, subst₂}
+use mathlib.Core.List.{List, _++_}
 use lib.ListN.{length, drop}
-use Rattle.rules.specs.Templates.{Policy, plain, stp, stp+}
+use Rattle.rules.specs.Templates.{Policy}
 use Rattle.rules.specs.Commands.{Command}
 use Rattle.rules.specs.State.{State, fresh}
-use Rattle.rules.specs.Runs.{Answer, Run, ends, then, Reachable}
+use Rattle.rules.specs.Runs.{Answer, Run, Reachable}
 use Rattle.rules.specs.Known.{KnownList}
 use Rattle.rules.proofs.Prefixes.{one-answer-each}
-use Rattle.rules.proofs.Sound.{Sound}
 use Rattle.rules.proofs.SoundKept.{sound}
 use Rattle.rules.proofs.KeyOrder.{keys-in-order}
 use Rattle.rules.proofs.KnownLists.{known-list-unique}
 use Rattle.rules.proofs.Steps.{run-unique}
 use Rattle.sheets.specs.Bytes.{two}
-use Rattle.sheets.specs.Sheets.{policy-number, header-length, contents, bodies, bodies-begin, sheet-bytes, Sheet}
-use Rattle.sheets.specs.Faults.{first-fault}
+use Rattle.sheets.specs.Sheets.{header-length, contents, bodies, bodies-begin, sheet-bytes, Sheet}
 use Rattle.sheets.specs.Reports.{records-bytes, tally}
 use Rattle.sheets.specs.Reading.{read-policy}
 use Rattle.sheets.specs.Calls.{over}
@@ -30,7 +26,7 @@ use Rattle.token.specs.declared.Token.{Token}
 use Rattle.token.specs.Shows.{Shows}
 use Rattle.token.specs.Known.{marked-keys}
 use Rattle.token.proofs.KnownShown.{known-shown}
-use Rattle.text.specs.Text.{first-line, command-lines, tally-line, known-line, key-lines, report-text, malformed-text}
+use Rattle.text.specs.Text.{command-lines, key-lines, report-text}
 use Rattle.text.specs.Text.{Prints, is-malformed, has-run}
 use Rattle.text.specs.Printing.{entry-lines, tally-of, marked-lines, run-text}
 use Rattle.text.proofs.PrintedLines.{lines-printed, tally-printed}

@@ -6,8 +6,7 @@ use native.Mathlib.Omega.{arith}
 use mathlib.Core.Path.{_≡_, sym, ap, _∙_}
 use mathlib.Core.List.{List}
 use lib.ListN.{length}
-use Rattle.sheets.specs.Sheets.{most-commands, bodies-begin}
-use Rattle.sheets.specs.Faults.{count}
+use Rattle.sheets.specs.Sheets.{bodies-begin}
 use Rattle.sheets.specs.Calls.{over}
 use Rattle.sheets.proofs.Calls.{over-length}
 use Rattle.sheets.proofs.Faultless.{none-faultless}

@@ -1,7 +1,7 @@
 -- The whole text written: the lines of a run one after another, and the one line of a malformed sheet. Rests on Placed.
 use Prim.Native.Nat.{ℕ, _+_, _*_, _≤_}
 use native.Mathlib.Omega.{arith}
-use mathlib.Core.Path.{_≡_, refl, sym, ap}
+use mathlib.Core.Path.{_≡_, sym, ap}
 use mathlib.Core.List.{List, [], _∷_, _++_, append-assoc}
 use lib.ListN.{length}
 use Rattle.sheets.specs.Reading.{read-policy}

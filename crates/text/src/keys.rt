@@ -1,5 +1,5 @@
 // How many keys of a token are known, and their lines.
-ghost use Prim.Native.Nat.{_+_, _*_, _≤_};
+ghost use Prim.Native.Nat.{_+_, _≤_};
 ghost use mathlib.Core.List.{_∷_, [], _++_};
 ghost use lib.ListN.{length};
 ghost use Rattle.token.specs.Known.{marked-keys};

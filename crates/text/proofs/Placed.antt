@@ -110,11 +110,6 @@ wrote-all {text} {before} h w =
       fits = omega (arith, w .inside);
     }
 
--- a text is written in one way
-pub printed-unique : {text before after after' : List ℕ} {long long' : ℕ} → Printed text before after long
-    → Printed text before after' long' → (after ≡ after') × (long ≡ long')
-printed-unique a b = (a .written ∙ sym (b .written), a .how-long ∙ sym (b .how-long))
-
 -- a string is written byte by byte: with i bytes behind, those are written
 module _ (bytes before : List ℕ) (at i : ℕ) (out : List ℕ) (to : ℕ) (room : at + length bytes ≤ length before)
     (so-far : Wrote i (take i bytes) before at out to) where

@@ -76,21 +76,14 @@ module _
           followed = followed-before f (walk-ends walk (leak-marked f));
         }
 
-module _
-    {newest older : List ℕ}
-    {first : Table}
-    {t : ℕ}
-    {now : Table}
-    {stack : List ℕ}
-    {depth link : ℕ}
-    (i : Following newest older first t now stack depth link)
-  where
-    -- a link is 0, or one more than a number of the table
-    pub link-inside : link ≤ most-terms
-    link-inside =
-        let low : last _ (i .walk .bound) ≤ i .walk .bound = last-le (under (first .entries) (i .walk .key)) (i .walk .bound) in
-        omega (arith, i .walk .link-is, i .walk .within, i .ready .few)
+-- a link is 0, or one more than a number of the table
+pub link-inside : {newest older stack : List ℕ} {first now : Table} {t depth link : ℕ}
+    → Following newest older first t now stack depth link → link ≤ most-terms
+link-inside {first = first} i =
+    let low : last _ (i .walk .bound) ≤ i .walk .bound = last-le (under (first .entries) (i .walk .key)) (i .walk .bound) in
+    omega (arith, i .walk .link-is, i .walk .within, i .ready .few)
 
-    -- the stack is not overrun
-    pub depth-inside : depth ≤ most-terms
-    depth-inside = omega (arith, i .walk .room)
+-- the stack is not overrun
+pub depth-inside : {newest older stack : List ℕ} {first now : Table} {t depth link : ℕ}
+    → Following newest older first t now stack depth link → depth ≤ most-terms
+depth-inside i = omega (arith, i .walk .room)

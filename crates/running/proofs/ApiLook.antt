@@ -2,6 +2,7 @@
 use Prim.Native.Nat.{ℕ, _<_}
 use mathlib.Core.Path.{_≡_, refl}
 use mathlib.Core.List.{List}
+use mathlib.Core.Bool.{Bool, true, false, cond}
 use native.Mathlib.Omega.{arith}
 use lib.ListN.{getD}
 use Rattle.shapes.specs.declared.Entry.{Entry}
@@ -13,23 +14,20 @@ use Rattle.deciding.specs.declared.Equal.{Equal}
 use Rattle.shapes.specs.declared.Command.{Command}
 use Rattle.shapes.specs.declared.Command.the-variants.{Generate, Wrap, Unwrap, Encrypt, Decrypt, Corrupt, Destroy}
 use Rattle.shapes.specs.declared.Command.the-variants.{OwnKey, OwnData, Seal}
-use Rattle.token.specs.Shows.{blank-entry, blank-slot}
+use Rattle.token.specs.Shows.{blank-entry, blank-slot, seal-code}
 use Rattle.deciding.specs.Decisions.{decided}
-use Rattle.running.specs.Views.{seenIn, namesOf, firstAt, otherAt, aimOf, equalIn, viewOf}
+use Rattle.running.specs.Views.{seenIn, namesOf, firstAt, otherAt, aimOf, aimIn, equalIn, viewOf}
 
 -- a seal's code is above 0
-pub aim-positive : (c : Command) (a b : Slot) (t : Entry) → 0 < aimOf c a b t
-unfolding aimOf
-aim-positive (Generate f) a b t = omega arith
-aim-positive (Wrap g h) a b t = omega arith
-aim-positive (Unwrap h n f) a b t = omega arith
-aim-positive (Encrypt h n) a b t = omega arith
-aim-positive (Decrypt h n) a b t = omega arith
-aim-positive (Corrupt h) a b t = omega arith
-aim-positive (Destroy h) a b t = omega arith
-aim-positive OwnKey a b t = omega arith
-aim-positive OwnData a b t = omega arith
-aim-positive (Seal k n) a b t = omega arith
+code-above : (own handled : Bool) (k p l q r : ℕ) →
+    0 < cond own (seal-code k p) (cond handled (seal-code l q) (seal-code l r))
+code-above true handled k p l q r = omega arith
+code-above false true k p l q r = omega arith
+code-above false false k p l q r = omega arith
+
+pub aim-positive : (n : Names) (a b : Slot) (first : Entry) → 0 < aimIn n a b first
+unfolding aimIn
+aim-positive n a b first = code-above (n .own) (n .handled) _ _ _ _ _
 
 -- what is decided on what is read is what is decided on the view: a command asks for no more than the two terms that it looks at
 module _ (policy : ℕ) (table : Table) (hands : Hands) (codes : List ℕ) where
@@ -39,10 +37,10 @@ module _ (policy : ℕ) (table : Table) (hands : Hands) (codes : List ℕ) where
       let b = getD (hands .slots) (n .b .0) blank-slot in
       let first = getD (table .entries) (firstAt n a) blank-entry in
       decided policy c
-      (seenIn n (hands .live) a b first (getD (table .entries) (otherAt n b first) blank-entry) (equalIn codes (aimOf c a b first))
+      (seenIn n (hands .live) a b first (getD (table .entries) (otherAt n b first) blank-entry) (equalIn codes (aimIn n a b first))
       (table .terms))
       ≡ decided policy c (viewOf table hands codes c)
-  unfolding decided namesOf aimOf viewOf seenIn firstAt otherAt
+  unfolding decided namesOf aimOf aimIn viewOf seenIn firstAt otherAt
   same-decision (Generate f) = refl
   same-decision (Wrap g h) = refl
   same-decision (Unwrap h n f) = refl
@@ -62,7 +60,7 @@ module _ (policy : ℕ) (table : Table) (hands : Hands) (codes : List ℕ) where
       → beside ≡ otherAt n (getD (hands .slots) (n .b .0) blank-slot) (getD (table .entries) at blank-entry)
       → {code : ℕ}
       → code
-      ≡ aimOf c (getD (hands .slots) (n .a .0) blank-slot) (getD (hands .slots) (n .b .0) blank-slot)
+      ≡ aimIn n (getD (hands .slots) (n .a .0) blank-slot) (getD (hands .slots) (n .b .0) blank-slot)
       (getD (table .entries) at blank-entry)
       → {equal : Equal}
       → equal ≡ equalIn codes code

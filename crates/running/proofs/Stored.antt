@@ -76,9 +76,21 @@ not-one : (k : ℕ) (ks : List ℕ) (n : ℕ) → NoneOf (k ∷ ks) n → OneOf 
 not-one k [] n f e = f .0 e
 not-one k (l ∷ ks) n f e = ⊎-elim (f .0) (not-one l ks n (f .1)) e
 
--- by the number of its case: no seal is appended, and the links stay as they are
-pub links-kept : (change : Change) → OneOf (0 ∷ 1 ∷ 2 ∷ 3 ∷ 4 ∷ 5 ∷ 7 ∷ []) (tagOf the-type change) → (links : Links) (terms : ℕ)
-    → links ≡ linksStored change links terms
+-- by the number of its case: not a seal, not a key that becomes known
+abbrev pub NoSeal : Change → Type 0
+NoSeal change = OneOf (0 ∷ 1 ∷ 2 ∷ 3 ∷ 4 ∷ 5 ∷ 7 ∷ []) (tagOf the-type change)
+
+no-seal : (k : KeyNo) (p : TermNo) (leaks : Bool) → NoSeal (NewSeal k p leaks) → ⊥
+no-seal k p leaks = not-one 0 (1 ∷ 2 ∷ 3 ∷ 4 ∷ 5 ∷ 7 ∷ []) 6 ((λ e. omega (arith, e)), ((λ e. omega (arith, e)), ((λ e. omega (arith, e)), ((λ e. omega (arith, e)), ((λ e. omega (arith, e)), ((λ e. omega (arith, e)), ((λ e. omega (arith, e)), tt)))))))
+
+abbrev pub NotKnown : Change → Type 0
+NotKnown change = OneOf (0 ∷ 1 ∷ 2 ∷ 3 ∷ 4 ∷ 5 ∷ 6 ∷ []) (tagOf the-type change)
+
+not-known : (p : TermNo) → NotKnown (Know p) → ⊥
+not-known p = not-one 0 (1 ∷ 2 ∷ 3 ∷ 4 ∷ 5 ∷ 6 ∷ []) 7 ((λ e. omega (arith, e)), ((λ e. omega (arith, e)), ((λ e. omega (arith, e)), ((λ e. omega (arith, e)), ((λ e. omega (arith, e)), ((λ e. omega (arith, e)), ((λ e. omega (arith, e)), tt)))))))
+
+-- then the links stay as they are, and there is no leak
+pub links-kept : (change : Change) → NoSeal change → (links : Links) (terms : ℕ) → links ≡ linksStored change links terms
 unfolding linksStored
 links-kept Nothing a links terms = refl
 links-kept (Bind n x) a links terms = refl
@@ -86,8 +98,19 @@ links-kept (Release n) a links terms = refl
 links-kept (NewKey n f) a links terms = refl
 links-kept OwnKey a links terms = refl
 links-kept OwnData a links terms = refl
-links-kept (NewSeal k p leaks) a links terms = absurd (not-one 0 (1 ∷ 2 ∷ 3 ∷ 4 ∷ 5 ∷ 7 ∷ []) 6 ((λ e. omega (arith, e)), ((λ e. omega (arith, e)), ((λ e. omega (arith, e)), ((λ e. omega (arith, e)), ((λ e. omega (arith, e)), ((λ e. omega (arith, e)), ((λ e. omega (arith, e)), tt))))))) a)
+links-kept (NewSeal k p leaks) a links terms = absurd (no-seal k p leaks a)
 links-kept (Know p) a links terms = refl
+
+pub leak-none : (change : Change) → NoSeal change → NotKnown change → No ≡ leakOf change
+unfolding leakOf
+leak-none Nothing a b = refl
+leak-none (Bind n x) a b = refl
+leak-none (Release n) a b = refl
+leak-none (NewKey n f) a b = refl
+leak-none OwnKey a b = refl
+leak-none OwnData a b = refl
+leak-none (NewSeal k p leaks) a b = absurd (no-seal k p leaks a)
+leak-none (Know p) a b = absurd (not-known p b)
 
 -- there is room to link what is appended
 pub linkable : (t : Token) (change : Change) → Applicable t change → Linkable change (t .table .terms)

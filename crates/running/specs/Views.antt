@@ -36,16 +36,16 @@ abbrev pub no-term : TermNo
 no-term = record { 0 = 0 }
 
 unfoldable pub namesOf : Command → Names
-namesOf (Generate f) = record { a = no-handle; b = no-handle; t = no-term; u = no-term; handled = false; opens = false }
-namesOf (Wrap a b) = record { a = a; b = b; t = no-term; u = no-term; handled = true; opens = false }
-namesOf (Unwrap h t f) = record { a = h; b = no-handle; t = t; u = no-term; handled = false; opens = true }
-namesOf (Encrypt h t) = record { a = h; b = no-handle; t = t; u = no-term; handled = false; opens = false }
-namesOf (Decrypt h t) = record { a = h; b = no-handle; t = t; u = no-term; handled = false; opens = true }
-namesOf (Corrupt h) = record { a = h; b = no-handle; t = no-term; u = no-term; handled = true; opens = false }
-namesOf (Destroy h) = record { a = h; b = no-handle; t = no-term; u = no-term; handled = false; opens = false }
-namesOf OwnKey = record { a = no-handle; b = no-handle; t = no-term; u = no-term; handled = false; opens = false }
-namesOf OwnData = record { a = no-handle; b = no-handle; t = no-term; u = no-term; handled = false; opens = false }
-namesOf (Seal k t) = record { a = no-handle; b = no-handle; t = k; u = t; handled = false; opens = false }
+namesOf (Generate f) = record { a = no-handle; b = no-handle; t = no-term; u = no-term; handled = false; opens = false; own = false }
+namesOf (Wrap a b) = record { a = a; b = b; t = no-term; u = no-term; handled = true; opens = false; own = false }
+namesOf (Unwrap h t f) = record { a = h; b = no-handle; t = t; u = no-term; handled = false; opens = true; own = false }
+namesOf (Encrypt h t) = record { a = h; b = no-handle; t = t; u = no-term; handled = false; opens = false; own = false }
+namesOf (Decrypt h t) = record { a = h; b = no-handle; t = t; u = no-term; handled = false; opens = true; own = false }
+namesOf (Corrupt h) = record { a = h; b = no-handle; t = no-term; u = no-term; handled = true; opens = false; own = false }
+namesOf (Destroy h) = record { a = h; b = no-handle; t = no-term; u = no-term; handled = false; opens = false; own = false }
+namesOf OwnKey = record { a = no-handle; b = no-handle; t = no-term; u = no-term; handled = false; opens = false; own = true }
+namesOf OwnData = record { a = no-handle; b = no-handle; t = no-term; u = no-term; handled = false; opens = false; own = true }
+namesOf (Seal k t) = record { a = no-handle; b = no-handle; t = k; u = t; handled = false; opens = false; own = true }
 
 abbrev pub inside : ℕ → ℕ
 inside i = cond (ltb i most-terms) i 0
@@ -119,6 +119,12 @@ firstAt names a = inside (cond (names .handled) (a .term .0) (names .t .0))
 
 unfoldable pub otherAt : Names → (b : Slot) → (first : Entry) → ℕ
 otherAt names b first = inside (cond (names .handled) (b .term .0) (cond (names .opens) (payloadNo (first .term) .0) (names .u .0)))
+
+-- the code that it looks for: of the seal that it would make, of any where it makes none
+unfoldable pub aimIn : Names → (a b : Slot) → (first : Entry) → ℕ
+aimIn names a b first =
+    cond (names .own) (seal-code (keyOf (first .term) .0) (names .u .0))
+    (cond (names .handled) (seal-code (a .key .0) (b .term .0)) (seal-code (a .key .0) (names .t .0)))
 
 -- what is read, as a view: each of the two terms stands wherever a command may look for it
 unfoldable pub seenIn : Names → (live : List ℕ) → (a b : Slot) → (first other : Entry) → Equal → (terms : ℕ) → View

@@ -195,16 +195,16 @@ fn answered(
 fn leak_of(change: Change) -> Leak
     ensures { λ r. ⌜ r ≡ leakOf change ⌝ }
 {
-    match change {
-        Change::Nothing => Leak::Nothing,
-        Change::Bind(h, slot) => Leak::Nothing,
-        Change::Release(h) => Leak::Nothing,
-        Change::NewKey(h, flags) => Leak::Nothing,
-        Change::OwnKey => Leak::Nothing,
-        Change::OwnData => Leak::Nothing,
-        Change::NewSeal(k, p, leaks) => if leaks { Leak::Of(p) } else { Leak::Nothing },
-        Change::Know(p) => Leak::Of(p),
+    let Change::NewSeal(k, p, leaks) = change else {
+        let Change::Know(p) = change else {
+            return Leak::Nothing;
+        };
+        return Leak::Of(p);
+    };
+    if leaks {
+        return Leak::Of(p);
     }
+    Leak::Nothing
 }
 
 // Runs the n commands of a good sheet.
@@ -230,7 +230,7 @@ pub fn advance(token: Token, policy: u8, sheet: &[u8], n: u16, records: &mut [u8
         let b = slots[names.b.0 as usize];
         let at = first_at(names, a);
         let first = table.entries[at];
-        let aim = aim_of(command, a, b, first);
+        let aim = aim_of(names, a, b, first);
         let equal = find(&heads, &chain, &codes, aim);
         // What it comes to.
         let change = answered(

@@ -22,7 +22,7 @@ use token::Token;
 use token::fresh;
 
 // The numbers that a command names, 0 where it names none. The terms that it looks at are its handles' own, or the first one and
-// what that seals, or the two that it names.
+// what that seals, or the two that it names; and it is the caller's own computing, or the token's.
 pub struct Names {
     pub a: HandleNo,
     pub b: HandleNo,
@@ -30,6 +30,7 @@ pub struct Names {
     pub u: TermNo,
     pub handled: bool,
     pub opens: bool,
+    pub own: bool,
 }
 
 // The slot that a change stores, and the live words that it leaves.

@@ -3,7 +3,7 @@ ghost use mathlib.Core.Path.{_≡_};
 ghost use Prim.Native.Nat.{_<_};
 ghost use Rattle.rules.specs.State.{most-terms};
 ghost use Rattle.token.specs.Shows.{seal-code};
-ghost use Rattle.running.specs.Views.{namesOf, inside, firstAt, otherAt, handleIn, lookupIn, aimOf, seenIn};
+ghost use Rattle.running.specs.Views.{namesOf, inside, firstAt, otherAt, handleIn, lookupIn, aimIn, seenIn};
 use crate::Names;
 use deciding::Equal;
 use deciding::Handle;
@@ -19,8 +19,16 @@ use shapes::TermNo;
 use shapes::entries::key_of;
 use shapes::entries::payload_no;
 
-fn named(a: HandleNo, b: HandleNo, t: TermNo, u: TermNo, handled: bool, opens: bool) -> Names
-    ensures { λ r. ⌜ r ≡ record { a = a; b = b; t = t; u = u; handled = handled; opens = opens } ⌝ }
+fn named(
+    a: HandleNo,
+    b: HandleNo,
+    t: TermNo,
+    u: TermNo,
+    handled: bool,
+    opens: bool,
+    own: bool,
+) -> Names
+    ensures { λ r. ⌜ r ≡ record { a = a; b = b; t = t; u = u; handled = handled; opens = opens; own = own } ⌝ }
 {
     Names {
         a,
@@ -29,6 +37,7 @@ fn named(a: HandleNo, b: HandleNo, t: TermNo, u: TermNo, handled: bool, opens: b
         u,
         handled,
         opens,
+        own,
     }
 }
 
@@ -38,16 +47,16 @@ pub fn names_of(command: Command) -> Names
     let h = HandleNo(0);
     let n = TermNo(0);
     match command {
-        Command::Generate(flags) => named(h, h, n, n, false, false),
-        Command::Wrap(a, b) => named(a, b, n, n, true, false),
-        Command::Unwrap(a, t, flags) => named(a, h, t, n, false, true),
-        Command::Encrypt(a, t) => named(a, h, t, n, false, false),
-        Command::Decrypt(a, t) => named(a, h, t, n, false, true),
-        Command::Corrupt(a) => named(a, h, n, n, true, false),
-        Command::Destroy(a) => named(a, h, n, n, false, false),
-        Command::OwnKey => named(h, h, n, n, false, false),
-        Command::OwnData => named(h, h, n, n, false, false),
-        Command::Seal(t, u) => named(h, h, t, u, false, false),
+        Command::Generate(flags) => named(h, h, n, n, false, false, false),
+        Command::Wrap(a, b) => named(a, b, n, n, true, false, false),
+        Command::Unwrap(a, t, flags) => named(a, h, t, n, false, true, false),
+        Command::Encrypt(a, t) => named(a, h, t, n, false, false, false),
+        Command::Decrypt(a, t) => named(a, h, t, n, false, true, false),
+        Command::Corrupt(a) => named(a, h, n, n, true, false, false),
+        Command::Destroy(a) => named(a, h, n, n, false, false, false),
+        Command::OwnKey => named(h, h, n, n, false, false, true),
+        Command::OwnData => named(h, h, n, n, false, false, true),
+        Command::Seal(t, u) => named(h, h, t, u, false, false, true),
     }
 }
 
@@ -110,24 +119,17 @@ pub fn code(k: u16, p: u16) -> u32
     (k as u32) * 1025 + (p as u32) + 1
 }
 
-// The code of the seal that the command would make.
-pub fn aim_of(command: Command, a: Slot, b: Slot, t: Entry) -> u32
-    ensures { λ r. ⌜ r ≡ aimOf command a b t ⌝ }
+// The code of the seal that the command would make; of any seal where it makes none.
+pub fn aim_of(names: Names, a: Slot, b: Slot, first: Entry) -> u32
+    ensures { λ r. ⌜ r ≡ aimIn names a b first ⌝ }
 {
-    let outer = a.key;
-    let inner = b.term;
-    match command {
-        Command::Generate(flags) => code(0, 0),
-        Command::Wrap(g, h) => code(outer.0, inner.0),
-        Command::Unwrap(h, n, flags) => code(0, 0),
-        Command::Encrypt(h, n) => code(outer.0, n.0),
-        Command::Decrypt(h, n) => code(0, 0),
-        Command::Corrupt(h) => code(0, 0),
-        Command::Destroy(h) => code(0, 0),
-        Command::OwnKey => code(0, 0),
-        Command::OwnData => code(0, 0),
-        Command::Seal(k, n) => code(key_of(t).0, n.0),
+    if names.own {
+        return code(key_of(first).0, names.u.0);
     }
+    if names.handled {
+        return code(a.key.0, b.term.0);
+    }
+    code(a.key.0, names.t.0)
 }
 
 // What a command sees, of what it read.

@@ -274,17 +274,15 @@ pub fn advance(token: Token, policy: u8, sheet: &[u8], n: u16, records: &mut [u8
         };
         table = follow(table, &newest, &older, p);
     }
-    let links = Links {
-        newest,
-        older,
-        heads,
-        chain,
-        codes,
-    };
-    let hands = Hands { slots, live };
     Token {
         table,
-        links,
-        hands,
+        links: Links {
+            newest,
+            older,
+            heads,
+            chain,
+            codes,
+        },
+        hands: Hands { slots, live },
     }
 }

@@ -98,8 +98,8 @@ fn slot_put(
         }
         Change::OwnKey => back,
         Change::OwnData => back,
-        Change::NewSeal(k, p, leaks) => back,
-        Change::Know(p) => back,
+        Change::NewSeal(_, _, _) => back,
+        Change::Know(_) => back,
     }
 }
 
@@ -125,20 +125,21 @@ fn entry_put(change: Change, at: usize, entry: Entry, terms: u16, keys: u16) -> 
         terms,
         keys,
     };
-    let key = Term::Key(KeyNo(keys));
     match change {
         Change::Nothing => back,
-        Change::Bind(h, slot) => back,
-        Change::Release(h) => back,
-        Change::NewKey(h, flags) => appended(terms, marked(key, false, false), keys + 1),
-        Change::OwnKey => appended(terms, marked(key, true, true), keys + 1),
+        Change::Bind(_, _) => back,
+        Change::Release(_) => back,
+        Change::NewKey(_, _) => {
+            let key = Term::Key(KeyNo(keys));
+            appended(terms, marked(key, false, false), keys + 1)
+        }
+        Change::OwnKey => {
+            let key = Term::Key(KeyNo(keys));
+            appended(terms, marked(key, true, true), keys + 1)
+        }
         Change::OwnData => appended(terms, marked(Term::Data, true, true), keys),
-        Change::NewSeal(k, p, leaks) => appended(
-            terms,
-            marked(Term::Seal(k, p), true, false),
-            keys,
-        ),
-        Change::Know(p) => back,
+        Change::NewSeal(k, p, _) => appended(terms, marked(Term::Seal(k, p), true, false), keys),
+        Change::Know(_) => back,
     }
 }
 

@@ -47,9 +47,9 @@ pub fn names_of(command: Command) -> Names
     let h = HandleNo(0);
     let n = TermNo(0);
     match command {
-        Command::Generate(flags) => named(h, h, n, n, false, false, false),
+        Command::Generate(_) => named(h, h, n, n, false, false, false),
         Command::Wrap(a, b) => named(a, b, n, n, true, false, false),
-        Command::Unwrap(a, t, flags) => named(a, h, t, n, false, true, false),
+        Command::Unwrap(a, t, _) => named(a, h, t, n, false, true, false),
         Command::Encrypt(a, t) => named(a, h, t, n, false, false, false),
         Command::Decrypt(a, t) => named(a, h, t, n, false, true, false),
         Command::Corrupt(a) => named(a, h, n, n, true, false, false),

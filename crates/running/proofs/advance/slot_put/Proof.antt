@@ -1,6 +1,5 @@
 -- `slot_put` meets its contract: each kind of change stores its own slot.
-use borrow.Author.Needs.{needs}
-use mathlib.Core.Path.{_≡_, refl, sym, ap, _∙_}
+use mathlib.Core.Path.{refl}
 use borrow.Author.Needs.{needs}
 use Rattle.running.proofs.advance.slot_put.Statement.{statement}
 use Rattle.running.proofs.advance.slot_put.Tie as tie
@@ -32,11 +31,11 @@ enum-told-2 c = search needs
 enum-told-3 : tie.Need-enum-told-3
 enum-told-3 c = search needs
 
-enum-known-change-4 : tie.Need-enum-known-change-4
-enum-known-change-4 c = search needs
+enum-told-4 : tie.Need-enum-told-4
+enum-told-4 c = search needs
 
-enum-known-change-5 : tie.Need-enum-known-change-5
-enum-known-change-5 c = search needs
+enum-told-5 : tie.Need-enum-told-5
+enum-told-5 c = search needs
 
 returns : tie.Need-returns
 returns c = rw (c .enum-told .given .1) refl
@@ -57,10 +56,10 @@ returns-6 : tie.Need-returns-6
 returns-6 c = rw (c .enum-told3 .given .1) refl
 
 returns-7 : tie.Need-returns-7
-returns-7 c = rw (c .before .change4 .given .1) refl
+returns-7 c = rw (c .enum-told4 .given .1) refl
 
 returns-8 : tie.Need-returns-8
-returns-8 c = rw (c .before .change5 .given .1) refl
+returns-8 c = rw (c .enum-told5 .given .1) refl
 
 pub slot-put-spec : {M : Type 1} → statement M
 slot-put-spec =
@@ -75,8 +74,8 @@ slot-put-spec =
     bound-requires-2
     enum-told-2
     enum-told-3
-    enum-known-change-4
-    enum-known-change-5
+    enum-told-4
+    enum-told-5
     returns
     returns-2
     returns-3

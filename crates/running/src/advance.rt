@@ -196,7 +196,7 @@ fn answered(
 fn leak_of(change: Change) -> Leak
     ensures { λ r. ⌜ r ≡ leakOf change ⌝ }
 {
-    let Change::NewSeal(k, p, leaks) = change else {
+    let Change::NewSeal(_, p, leaks) = change else {
         let Change::Know(p) = change else {
             return Leak::Nothing;
         };
@@ -224,6 +224,7 @@ pub fn advance(token: Token, policy: u8, sheet: &[u8], n: u16, records: &mut [u8
     let mut i: u16 = 0;
     while i < n {
         let terms = table.terms;
+        let keys = table.keys;
         // What the command names and sees, read into small values.
         let command = command_in(sheet, i);
         let names = names_of(command);
@@ -250,16 +251,17 @@ pub fn advance(token: Token, policy: u8, sheet: &[u8], n: u16, records: &mut [u8
         );
         i += 1;
         // The change: a slot and an entry, stored back as they were read where it changes none.
-        let hand = slot_put(change, live, names.a, a, terms, table.keys);
+        let hand = slot_put(change, live, names.a, a, terms, keys);
         let slot = hand.slot;
         slots[hand.number.0 as usize] = slot;
         live = hand.live;
-        let put = entry_put(change, at, first, terms, table.keys);
+        let put = entry_put(change, at, first, terms, keys);
         let entry = put.entry;
         let to = put.at;
         table.entries[to] = entry;
         table.terms = put.terms;
         table.keys = put.keys;
+        // A new seal goes to the front of its two chains, and what leaks is followed.
         link(
             &mut newest,
             &mut older,

@@ -57,8 +57,8 @@ fn leaks(entry: Entry) -> bool
     let marks = entry.marks;
     match term {
         Term::Data => false,
-        Term::Key(k) => !marks.held,
-        Term::Seal(k, p) => false,
+        Term::Key(_) => !marks.held,
+        Term::Seal(_, _) => false,
     }
 }
 

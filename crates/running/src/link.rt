@@ -34,7 +34,7 @@ pub fn link<'a>(
     ensures { λ r. ⌜ record { newest = now (newest .exit); older = now (older .exit); heads = now (heads .exit); chain = now (chain .exit); codes = now (codes .exit) }
         ≡ linksStored change (record { newest = now (newest .entry); older = now (older .entry); heads = now (heads .entry); chain = now (chain .entry); codes = now (codes .entry) }) terms ⌝ }
 {
-    let Change::NewSeal(k, p, leaks) = change else {
+    let Change::NewSeal(k, p, _) = change else {
         return;
     };
     let code = code(k.0, p.0);

@@ -61,8 +61,8 @@ fn is_key(entry: Entry) -> bool
     let term = entry.term;
     match term {
         Term::Data => false,
-        Term::Key(k) => true,
-        Term::Seal(k, p) => false,
+        Term::Key(_) => true,
+        Term::Seal(_, _) => false,
     }
 }
 
@@ -72,8 +72,8 @@ fn sealed_under(k: KeyNo, entry: Entry) -> bool
     let term = entry.term;
     match term {
         Term::Data => false,
-        Term::Key(j) => false,
-        Term::Seal(j, p) => j.0 == k.0,
+        Term::Key(_) => false,
+        Term::Seal(j, _) => j.0 == k.0,
     }
 }
 
@@ -314,25 +314,25 @@ pub fn decide(policy: u8, command: Command, view: View) -> Decision
             let free = view.free;
             generate(policy, flags, free, terms)
         }
-        Command::Wrap(g, h) => {
+        Command::Wrap(_, _) => {
             let b = view.b;
             let equal = view.equal;
             wrap(a, b, view.outer, view.inner, equal, terms)
         }
-        Command::Unwrap(h, n, flags) => {
+        Command::Unwrap(_, _, flags) => {
             let free = view.free;
             unwrap(policy, a, t, flags, view.payload, free)
         }
-        Command::Encrypt(h, n) => {
+        Command::Encrypt(_, n) => {
             let equal = view.equal;
             encrypt(policy, a, t, n, equal, terms)
         }
-        Command::Decrypt(h, n) => decrypt(a, t, view.payload),
-        Command::Corrupt(h) => corrupt(a, view.outer),
+        Command::Decrypt(_, _) => decrypt(a, t, view.payload),
+        Command::Corrupt(_) => corrupt(a, view.outer),
         Command::Destroy(h) => destroy(a, h),
         Command::OwnKey => own_key(terms),
         Command::OwnData => own_data(terms),
-        Command::Seal(k, n) => {
+        Command::Seal(_, n) => {
             let u = view.u;
             let equal = view.equal;
             seal(t, u, n, equal, terms)

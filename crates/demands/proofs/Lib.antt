@@ -1,1 +1,2 @@
+-- The three demands.
 pub mod Demands

@@ -1,1 +1,2 @@
+-- The starred exercises, proved.
 pub mod Exercises

@@ -1,1 +1,2 @@
+-- The starred exercises, as a table.
 pub mod Exercises

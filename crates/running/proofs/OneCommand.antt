@@ -4,11 +4,10 @@
 use Prim.Native.Nat.{ℕ, zero, suc, _+_, _≤_, _<_}
 use native.Mathlib.Omega.{arith}
 use mathlib.Core.Path.{_≡_, refl, sym, ap, subst, _∙_}
-use mathlib.Core.Bool.{Bool, true, false, not}
+use mathlib.Core.Bool.{true, false}
 use mathlib.Core.List.{List, [], _∷_, append-nil}
 use mathlib.Core.Option.{none}
-use lib.Dec.{eqb}
-use borrow.Author.Tests.{lt-ltb, le-ltb, ltb-false, eqb-true, not-false}
+use borrow.Author.Tests.{ltb-false, eqb-true, not-false}
 use lib.ListN.{length, take}
 use Rattle.rules.specs.Templates.{Policy}
 use Rattle.rules.specs.Commands.{Command, number}
@@ -46,21 +45,6 @@ pub made-of : (policy n : ℕ) (b : List ℕ) {w x y z : ℕ} → w ≡ byte-at 
     → policy ∷ 0 ∷ 1 ∷ n ∷ 0 ∷ 6 ∷ w ∷ x ∷ y ∷ z ∷ [] ≡ one-command policy n b
 unfolding one-command
 made-of policy n b ew ex ey ez = rw (ew, ex, ey, ez) refl
-
--- the three tests of a call, in their order
-pub policy-above : (policy n : ℕ) (b : List ℕ) → 2 < policy → true ≡ not-a-call policy n b
-unfolding not-a-call
-policy-above policy n b high = rw (lt-ltb 2 policy high) refl
-
-module _ (policy n : ℕ) (b : List ℕ) (low : policy ≤ 2) where
-  pub number-unknown : {known : Bool} → known ≡ known-number n → not known ≡ true → true ≡ not-a-call policy n b
-  unfolding not-a-call no-command
-  number-unknown is e = rw (le-ltb 2 policy low, ← is, e) refl
-
-  pub length-tested : {known : Bool} → known ≡ known-number n → not known ≡ false → {long : ℕ} → long ≡ body-length n
-      → not (eqb (length b) long) ≡ not-a-call policy n b
-  unfolding not-a-call no-command
-  length-tested is e same = rw (le-ltb 2 policy low, ← is, e, same) refl
 
 -- what makes a call
 pub record IsCall (policy n : ℕ) (b : List ℕ) : Type 0 where

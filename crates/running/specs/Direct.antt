@@ -3,22 +3,18 @@
 -- above 2, under any one)." Assumes nothing.
 use Prim.Native.Nat.{ℕ, _≤_}
 use mathlib.Core.Path.{_≡_}
-use mathlib.Core.Bool.{Bool, true, false, _||_}
+use mathlib.Core.Bool.{Bool, true, false}
 use mathlib.Core.List.{List}
-use lib.Dec.{ltb}
 use Rattle.rules.specs.Templates.{Policy}
 use Rattle.rules.specs.Commands.{Command}
 use Rattle.rules.specs.State.{State}
 use Rattle.rules.specs.Runs.{Step, Reachable}
 use Rattle.sheets.specs.Sheets.{policy-number}
 use Rattle.sheets.specs.Reading.{read-command}
-unfoldable pub use Rattle.shapes.specs.Commands.{no-command}
+unfoldable pub use Rattle.shapes.specs.Commands.{no-command, not-a-call}
 use Rattle.token.specs.declared.Token.{Token}
 use Rattle.running.specs.declared.Called.{Called}
 use Rattle.token.specs.Shows.{Shows}
-
-unfoldable pub not-a-call : (policy number : ℕ) (body : List ℕ) → Bool
-not-a-call policy number body = ltb 2 policy || no-command number body
 
 -- a token's state: reached under one policy, which is the policy of this call where that is at most 2
 pub record ComesFrom (token : Token) (policy : ℕ) (p : Policy) (s : State) : Type 0 where

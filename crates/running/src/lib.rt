@@ -9,7 +9,6 @@ mod one;
 ghost use Rattle.running.specs.Direct.{Reached, Answered};
 ghost use Rattle.running.specs.Run.{RanSheet};
 use advance::advance;
-use one::not_a_call;
 use one::one_command;
 use one::value_in;
 use reader::Checked;
@@ -18,6 +17,7 @@ use shapes::Entry;
 use shapes::HandleNo;
 use shapes::Slot;
 use shapes::TermNo;
+use shapes::parse::not_a_call;
 use token::Token;
 use token::fresh;
 

@@ -3,23 +3,7 @@ ghost use mathlib.Core.Path.{_≡_};
 ghost use Prim.Native.Nat.{_≤_};
 ghost use lib.ListN.{length};
 ghost use Rattle.sheets.specs.Bytes.{byte-at, two-at};
-ghost use Rattle.running.specs.Direct.{not-a-call};
 ghost use Rattle.running.specs.OneCommand.{one-command};
-use shapes::parse::body_length;
-use shapes::parse::known_number;
-
-// Is the call none: a policy above 2, an unknown command number, or a body not of that command's length?
-pub fn not_a_call(policy: u8, number: u8, body: &[u8]) -> bool
-    ensures { λ r. ⌜ r ≡ not-a-call policy number (now (body .entry)) ⌝ }
-{
-    if 2 < policy {
-        return true;
-    }
-    if !known_number(number) {
-        return true;
-    }
-    body.len() != body_length(number)
-}
 
 // Byte i of a body, 0 past its end.
 fn byte_of(body: &[u8], i: usize) -> u8

@@ -1,17 +1,17 @@
 -- What a command number and a body state, by the tests that the code asks. Assumes nothing.
 use mathlib.Core.Path.{_≡_, refl, sym, _∙_}
-use mathlib.Core.Bool.{true, false, or-true, false≢true}
+use mathlib.Core.Bool.{Bool, true, false, not, or-true, false≢true}
 use mathlib.Core.List.{List}
 use Prim.Native.Nat.{ℕ, zero, suc, _<_, _≤_}
 use native.Mathlib.Omega.{arith}
 use borrow.Author.Tests.{lt-ltb, le-ltb, ltb-true, ltb-false, eq-eqb, ne-eqb, leb-true, leb-false}
-use lib.Dec.{leb}
+use lib.Dec.{eqb, leb}
 use lib.ListN.{length, getD, List·getD-eq-default}
 use Rattle.terms.proofs.Lists.{bool-cases}
 use Rattle.sheets.specs.Faults.{known-number, body-length, body-lengths}
 use Rattle.sheets.specs.Reading.{read-command}
 use Rattle.shapes.specs.declared.Parsed.the-variants.{Known, Unknown}
-use Rattle.shapes.specs.Commands.{commandOf, parsedIf, no-command, parsed}
+use Rattle.shapes.specs.Commands.{commandOf, parsedIf, no-command, not-a-call, parsed}
 
 -- a number and a body state the command that they read as
 abbrev pub States : (number : ℕ) → (body : List ℕ) → Type 0
@@ -81,3 +81,18 @@ module _ (number : ℕ) (body : List ℕ) where
   pub states : known-number number ≡ true → length body ≡ body-length number → States number body
   unfolding parsed parsedIf no-command
   states e h = simp (e, eq-eqb _ _ h)
+
+-- the three tests of a call, in their order
+pub policy-above : (policy n : ℕ) (b : List ℕ) → 2 < policy → true ≡ not-a-call policy n b
+unfolding not-a-call
+policy-above policy n b high = rw (lt-ltb 2 policy high) refl
+
+module _ (policy n : ℕ) (b : List ℕ) (low : policy ≤ 2) where
+  pub number-unknown : {known : Bool} → known ≡ known-number n → not known ≡ true → true ≡ not-a-call policy n b
+  unfolding not-a-call no-command
+  number-unknown is e = rw (le-ltb 2 policy low, ← is, e) refl
+
+  pub length-tested : {known : Bool} → known ≡ known-number n → not known ≡ false → {long : ℕ} → long ≡ body-length n
+      → not (eqb (length b) long) ≡ not-a-call policy n b
+  unfolding not-a-call no-command
+  length-tested is e same = rw (le-ltb 2 policy low, ← is, e, same) refl

@@ -3,7 +3,7 @@
 use Prim.Native.Nat.{ℕ}
 use mathlib.Core.Bool.{Bool, true, false, not, _||_}
 use mathlib.Core.List.{List}
-use lib.Dec.{eqb}
+use lib.Dec.{eqb, ltb}
 use lib.ListN.{length}
 use Rattle.rules.specs.Commands.{Command, GENERATE, WRAP, UNWRAP, ENCRYPT, DECRYPT, CORRUPT, DESTROY, OWN-KEY, OWN-DATA, SEAL}
 use Rattle.sheets.specs.Faults.{known-number, body-length}
@@ -33,6 +33,10 @@ parsedIf false c = Known (commandOf c)
 
 unfoldable pub no-command : (number : ℕ) (body : List ℕ) → Bool
 no-command number body = not (known-number number) || not (eqb (length body) (body-length number))
+
+-- 1: "at a direct call: unknown command number, policy above 2, or a body not of that command's length"
+unfoldable pub not-a-call : (policy number : ℕ) (body : List ℕ) → Bool
+not-a-call policy number body = ltb 2 policy || no-command number body
 
 unfoldable pub parsed : (number : ℕ) (body : List ℕ) → Parsed
 parsed number body = parsedIf (no-command number body) (read-command number body)

@@ -14,7 +14,7 @@ pub fn key_of(entry: Entry) -> KeyNo
     match term {
         Term::Data => KeyNo(0),
         Term::Key(k) => k,
-        Term::Seal(k, p) => KeyNo(0),
+        Term::Seal(_, _) => KeyNo(0),
     }
 }
 
@@ -25,7 +25,7 @@ pub fn payload_no(entry: Entry) -> TermNo
     let term = entry.term;
     match term {
         Term::Data => TermNo(0),
-        Term::Key(k) => TermNo(0),
-        Term::Seal(k, p) => p,
+        Term::Key(_) => TermNo(0),
+        Term::Seal(_, p) => p,
     }
 }

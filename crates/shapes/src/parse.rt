@@ -4,7 +4,7 @@ ghost use Prim.Native.Nat.{_<_, _+_};
 ghost use lib.ListN.{length};
 ghost use Rattle.sheets.specs.Bytes.{two-at};
 ghost use Rattle.sheets.specs.Faults.{known-number, body-length};
-ghost use Rattle.shapes.specs.Commands.{parsed};
+ghost use Rattle.shapes.specs.Commands.{not-a-call, parsed};
 use crate::Command;
 use crate::HandleNo;
 use crate::Parsed;
@@ -64,4 +64,17 @@ pub fn parse(number: u8, body: &[u8]) -> Parsed
         9 => Parsed::Known(Command::OwnData),
         _ => Parsed::Known(Command::Seal(term_at(body, 0), term_at(body, 2))),
     }
+}
+
+// Is a direct call none: a policy above 2, an unknown command number, or a body not of that command's length?
+pub fn not_a_call(policy: u8, number: u8, body: &[u8]) -> bool
+    ensures { λ r. ⌜ r ≡ not-a-call policy number (now (body .entry)) ⌝ }
+{
+    if 2 < policy {
+        return true;
+    }
+    if !known_number(number) {
+        return true;
+    }
+    body.len() != body_length(number)
 }

@@ -24,8 +24,8 @@ pub fn is_known(entry: Entry) -> bool
     let marks = entry.marks;
     match term {
         Term::Data => false,
-        Term::Key(k) => marks.held,
-        Term::Seal(k, p) => false,
+        Term::Key(_) => marks.held,
+        Term::Seal(_, _) => false,
     }
 }
 
@@ -84,7 +84,7 @@ fn has_number(entry: Entry, k: KeyNo) -> bool
     match term {
         Term::Data => false,
         Term::Key(j) => j.0 == k.0,
-        Term::Seal(j, p) => false,
+        Term::Seal(_, _) => false,
     }
 }
 

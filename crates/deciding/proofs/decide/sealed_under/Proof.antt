@@ -7,11 +7,11 @@ use Rattle.deciding.proofs.decide.sealed_under.Tie as tie
 enum-told : tie.Need-enum-told
 enum-told c = search needs
 
+enum-told-2 : tie.Need-enum-told-2
+enum-told-2 c = search needs
+
 enum-known-term : tie.Need-enum-known-term
 enum-known-term c = search needs
-
-enum-known-term-2 : tie.Need-enum-known-term-2
-enum-known-term-2 c = search needs
 
 returns : tie.Need-returns
 returns c = search needs
@@ -20,8 +20,8 @@ returns-2 : tie.Need-returns-2
 returns-2 c = search needs
 
 returns-3 : tie.Need-returns-3
-returns-3 c = simp (c .before .before .before .term2 .given .1)
+returns-3 c = simp (c .before .before .before .term .given .1)
 
 pub sealed-under-spec : {M : Type 1} → statement M
 sealed-under-spec =
-    tie.close (tie.spec enum-told enum-known-term enum-known-term-2 returns returns-2 returns-3)
+    tie.close (tie.spec enum-told enum-told-2 enum-known-term returns returns-2 returns-3)

@@ -1,4 +1,4 @@
--- `appended` meets its contract.
+-- `appended` meets its contract: the place is the number of terms, which fits. Assumes nothing.
 use borrow.Author.Needs.{needs}
 use native.Mathlib.Numerals.{add-one}
 use mathlib.Core.Path.{_≡_, refl, sym, ap, _∙_}

@@ -1,4 +1,4 @@
--- `put_record` meets its contract.
+-- `put_record` meets its contract: three bytes at their places, and a value's two halves are bytes. Assumes nothing.
 use borrow.Author.Needs.{needs}
 use lib.ListN.{length-set}
 use mathlib.Core.Path.{_≡_, refl, sym, ap, _∙_}

@@ -1,4 +1,4 @@
--- `first` meets its contract.
+-- `first` meets its contract: two stores, each at its place. Assumes nothing.
 use native.Mathlib.Numerals.{add-one}
 use mathlib.Core.Path.{refl}
 use borrow.Author.Needs.{needs}

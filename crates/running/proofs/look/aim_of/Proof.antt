@@ -1,4 +1,5 @@
--- `aim_of` meets its contract.
+-- `aim_of` meets its contract: the code of the seal under the caller's key, of the two handles, or of the handle and the term.
+-- Assumes nothing.
 use mathlib.Core.Path.{sym}
 use borrow.Author.Needs.{needs}
 use Rattle.running.specs.Views.{aimIn}

@@ -1,4 +1,4 @@
--- `first_at` meets its contract.
+-- `first_at` meets its contract: the term of the first handle, or the first term named, by its place. Assumes nothing.
 use borrow.Author.Needs.{needs}
 use Rattle.running.specs.Views.{firstAt}
 use Rattle.running.proofs.look.first_at.Statement.{statement}

@@ -1,4 +1,5 @@
--- `other_at` meets its contract.
+-- `other_at` meets its contract: the term of the second handle, the payload of the first term, or the second term named, each by
+-- its place. Assumes nothing.
 use mathlib.Core.Path.{sym}
 use borrow.Author.Needs.{needs}
 use Rattle.running.specs.Views.{otherAt}

@@ -10,8 +10,8 @@ enum-told c = search needs
 enum-known-term : tie.Need-enum-known-term
 enum-known-term c = search needs
 
-enum-known-term-2 : tie.Need-enum-known-term-2
-enum-known-term-2 c = search needs
+enum-told-2 : tie.Need-enum-told-2
+enum-told-2 c = search needs
 
 returns : tie.Need-returns
 unfolding is-key-no
@@ -23,8 +23,8 @@ returns-2 c = rw (c .before .before .before .term .given .1)
 
 returns-3 : tie.Need-returns-3
 unfolding is-key-no
-returns-3 c = rw (c .before .term2 .given .1)
+returns-3 c = rw (c .enum-told2 .given .1)
 
 pub has-number-spec : {M : Type 1} → statement M
 has-number-spec =
-    tie.close (tie.spec enum-told enum-known-term enum-known-term-2 returns returns-2 returns-3)
+    tie.close (tie.spec enum-told enum-known-term enum-told-2 returns returns-2 returns-3)

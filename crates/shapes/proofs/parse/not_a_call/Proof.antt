@@ -1,8 +1,8 @@
--- `not_a_call` meets its contract: its tests are those of `not-a-call`, in their order (OneCommand).
+-- `shapes::parse::not_a_call` meets its contract: its tests are those of `not-a-call`, in their order (Parsing). Assumes nothing.
 use borrow.Author.Needs.{needs}
-use Rattle.running.proofs.OneCommand.{policy-above, number-unknown, length-tested}
-use Rattle.running.proofs.one.not_a_call.Statement.{statement}
-use Rattle.running.proofs.one.not_a_call.Tie as tie
+use Rattle.shapes.proofs.Parsing.{policy-above, number-unknown, length-tested}
+use Rattle.shapes.proofs.parse.not_a_call.Statement.{statement}
+use Rattle.shapes.proofs.parse.not_a_call.Tie as tie
 
 returns : tie.Need-returns
 returns c = policy-above _ _ _ (c .if1 .taken)

@@ -208,7 +208,11 @@ loop-again c =
     advance-on (c35 .loop .inv) (c34 .loop-test .taken) (c33 .command-in .ensures)
     (decided-of-seen _ _ _ _ _ (c32 .names-of .ensures) (c27 .first-at .ensures .0) (c19 .other-at .ensures .0) (c25 .aim-of .ensures)
     (c21 .find .ensures)) (c17 .answered .ensures)
-    (stored-applied _ (c32 .names-of .result .a .0) refl (c27 .first-at .result) refl (c14 .slot-put .result) (c10 .entry-put .result) (c17 .answered .result)
+    (stored-applied (record {
+      table = c35 .loop .table;
+      links = record { newest = c35 .loop .newest; older = c35 .loop .older; heads = c35 .loop .heads; chain = c35 .loop .chain; codes = c35 .loop .codes };
+      hands = record { slots = c35 .loop .slots; live = c35 .loop .live };
+    }) (c32 .names-of .result .a .0) refl (c27 .first-at .result) refl (c14 .slot-put .result) (c10 .entry-put .result) (c17 .answered .result)
     (c14 .slot-put .ensures, c10 .entry-put .ensures) (c3 .link .ensures) (sym (c2 .leak-of .ensures) ∙ c .enum-told .given .1))
 
 follow-requires : tie.Need-follow-requires Inv-loop μ-loop
@@ -221,7 +225,12 @@ follow-requires c κs =
     let c20 = c17 .before .before .before in
     let c30 = c20 .before .before .before .before .before .before .before .before .before .before in
     let c35 = c30 .before .before .before .before .before in
-    stored-followable _ (c35 .names-of .result .a .0) refl (c30 .first-at .result) refl (c17 .slot-put .result) (c13 .entry-put .result) (c20 .answered .result)
+    let c38 = c35 .before .before .before in
+    stored-followable (record {
+      table = c38 .loop .table;
+      links = record { newest = c38 .loop .newest; older = c38 .loop .older; heads = c38 .loop .heads; chain = c38 .loop .chain; codes = c38 .loop .codes };
+      hands = record { slots = c38 .loop .slots; live = c38 .loop .live };
+    }) (c35 .names-of .result .a .0) refl (c30 .first-at .result) refl (c17 .slot-put .result) (c13 .entry-put .result) (c20 .answered .result)
     (c17 .slot-put .ensures, c13 .entry-put .ensures) (c6 .link .ensures) (sym (c5 .leak-of .ensures) ∙ c3 .leak .given .1)
     (applicable (c20))
 
@@ -252,7 +261,11 @@ loop-again-2 c =
     advance-on (c39 .loop .inv) (c38 .loop-test .taken) (c37 .command-in .ensures)
     (decided-of-seen _ _ _ _ _ (c36 .names-of .ensures) (c31 .first-at .ensures .0) (c23 .other-at .ensures .0) (c29 .aim-of .ensures)
     (c25 .find .ensures)) (c21 .answered .ensures)
-    (stored-followed _ (c36 .names-of .result .a .0) refl (c31 .first-at .result) refl (c18 .slot-put .result) (c14 .entry-put .result) (c21 .answered .result)
+    (stored-followed (record {
+      table = c39 .loop .table;
+      links = record { newest = c39 .loop .newest; older = c39 .loop .older; heads = c39 .loop .heads; chain = c39 .loop .chain; codes = c39 .loop .codes };
+      hands = record { slots = c39 .loop .slots; live = c39 .loop .live };
+    }) (c36 .names-of .result .a .0) refl (c31 .first-at .result) refl (c18 .slot-put .result) (c14 .entry-put .result) (c21 .answered .result)
     (c18 .slot-put .ensures, c14 .entry-put .ensures) (c7 .link .ensures) (sym (c6 .leak-of .ensures) ∙ c4 .leak .given .1) (c .follow .ensures))
 
 same-length : tie.Need-same-length Inv-loop μ-loop

@@ -3,10 +3,13 @@
 use Prim.Native.Nat.{ℕ, zero, suc, _+_, _*_, _≤_, _<_, max}
 use native.Mathlib.Omega.{arith}
 use mathlib.Core.Path.{_≡_, refl, sym, ap, _∙_}
+use mathlib.Core.Bool.{false}
 use mathlib.Core.List.{List, [], _∷_, _++_}
 use lib.ListN.{length, getD, take, drop, length-append, List·getD-eq-default}
 use Rattle.rules.specs.Templates.{Policy, plain, stp, stp+}
+use borrow.Author.Tests.{ltb-false}
 use Rattle.sheets.specs.Reading.{read-policy}
+use Rattle.sheets.specs.Faults.{known-number, body-lengths}
 use Rattle.shapes.proofs.Tables.{followed}
 use Rattle.text.specs.Text.{word, policy-name, command-names, command-name}
 use Rattle.text.specs.Writing.{Wrote}
@@ -66,11 +69,11 @@ pub wrote-policy : (policy n : ℕ) → (n < 3) × (read-policy n ≡ read-polic
     → Wrote 6 (policy-name (read-policy policy) ++ 32 ∷ []) before at after end
 wrote-policy policy n (low, same) w = wrote-row 6 (policy-most (read-policy policy)) (policy-row n low) (ap policy-name same) w
 
--- the commands: a number above 10 has no name, as row 0
-pub nameless : (n : ℕ) → 10 < n → command-name 0 ≡ command-name n
-unfolding command-name command-names word
-nameless zero h = refl
-nameless (suc n) h = let far : 10 ≤ n = omega arith in sym (List·getD-eq-default command-names [] far)
+-- the commands: a number of no command has no name, as row 0
+pub nameless : (n : ℕ) → known-number n ≡ false → command-name 0 ≡ command-name n
+unfolding known-number body-lengths command-name command-names word
+nameless zero e = refl
+nameless (suc n) e = sym (List·getD-eq-default command-names [] (ltb-false n 10 e))
 
 -- no name is longer than eight bytes
 longest : List (List ℕ) → ℕ

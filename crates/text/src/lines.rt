@@ -12,6 +12,7 @@ use crate::append::write_bytes;
 use crate::append::write_number;
 use crate::append::write_part;
 use crate::append::write_told;
+use shapes::parse::known_number;
 
 // How long a policy's name is with the blank behind it, by policy number.
 const POLICY_LENGTHS: [usize; 3] = [6, 4, 5];
@@ -43,7 +44,7 @@ fn write_policy(policy: u8, at: usize, out: &mut [u8]) -> usize
 fn name_row(number: u8) -> usize
     ensures { λ r. ⌜ (r < 11) × (command-name r ≡ command-name number) ⌝ }
 {
-    if 10 < number {
+    if !known_number(number) {
         return 0;
     }
     number as usize

@@ -1,6 +1,7 @@
 // Runs the two exercises of document 01 that come to its limits, through the direct call under the plain policy, and prints a line for
 // each call: command number, answer, value. First 257 times GENERATE; then from a fresh token OWN KEY, OWN DATA, SEAL 0 1, 1,021 times
 // OWN DATA, one more, and SEAL 0 1 again.
+#![tactic(auto)]
 ghost use Rattle.running.specs.Direct.{Reached};
 
 use libc::STDOUT_FILENO;

@@ -1,25 +1,26 @@
 // What each command comes to, decided on small values: what a command sees of a token, and the answer, the value and the change that
 // follow.
+#![tactic(auto)]
 pub mod decide;
 mod tables;
 
 use shapes::{Entry, Free, HandleNo, KeyNo, Slot, TermNo};
 
 // Looking up a handle or a term.
-#[derive(Drop)]
+#[derive(Clone, Copy)]
 pub enum Handle {
     Live(Slot),
     Dead,
 }
 
-#[derive(Drop)]
+#[derive(Clone, Copy)]
 pub enum Lookup {
     There(Entry),
     Nothing,
 }
 
 // Looking for the equal of a seal.
-#[derive(Drop)]
+#[derive(Clone, Copy)]
 pub enum Equal {
     At(TermNo),
     New,
@@ -27,7 +28,7 @@ pub enum Equal {
 
 // What a command sees of the token: the handles and terms that it names, the payload of the first term, the entries of the two
 // handles' keys, the equal of the seal that it would make, the number a new handle takes, and how many terms there are.
-#[derive(Drop)]
+#[derive(Clone, Copy)]
 pub struct View {
     pub a: Handle,
     pub b: Handle,
@@ -42,7 +43,7 @@ pub struct View {
 }
 
 // What a done command changes in the token.
-#[derive(Drop)]
+#[derive(Clone, Copy)]
 pub enum Change {
     Nothing,
     Bind(HandleNo, Slot),
@@ -54,7 +55,7 @@ pub enum Change {
     Know(TermNo),
 }
 
-#[derive(Drop)]
+#[derive(Clone, Copy)]
 pub struct Decision {
     pub answer: u8,
     pub value: u16,

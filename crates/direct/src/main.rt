@@ -2,6 +2,7 @@
 // read, is a row of sequences: policy, how many calls in two bytes, then so many calls, each a command number, a body length and a
 // body. Each sequence begins with a fresh token. Standard output has three bytes for each call: the answer, and its value in two
 // bytes. Where the input is cut off the work ends, and what was answered before is written.
+#![tactic(auto)]
 ghost use Rattle.std.specs.Prelude.{◌+◌, ◌≤◌, ◌≡◌, length};
 ghost use Rattle.io.specs.Counts.{IsPrefixLen};
 ghost use Rattle.running.specs.Direct.{Reached};

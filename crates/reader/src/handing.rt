@@ -5,7 +5,7 @@ ghost use Rattle.reader.specs.Reader.{body_at, entry_at};
 use crate::{Read, body, entry};
 
 // The sheet itself, and how many entries stand before this one.
-#[derive(Drop)]
+#[derive(Clone, Copy)]
 pub struct Reader<'a> {
     pub sheet: &'a [u8],
     pub entry: u16,

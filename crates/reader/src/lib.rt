@@ -1,5 +1,6 @@
 // Reads a sheet: checked to its first fault, each body handed on as that part of the sheet itself, each entry as its command.
 // Nothing is copied, and no sheet is refused to be read: what each function gives is said for every byte string.
+#![tactic(auto)]
 ghost use Rattle.std.specs.Prelude.{◌≡◌};
 ghost use Rattle.reader.specs.Reader.{checked, body_at, entry_at};
 
@@ -13,14 +14,14 @@ pub mod handing;
 mod table;
 
 // What a sheet is found to be: good, with its policy and count, or malformed, with the place of its first fault.
-#[derive(Drop)]
+#[derive(Clone, Copy)]
 pub enum Checked {
     Good(u8, u16),
     Malformed(u16),
 }
 
 // An entry of a sheet, where there is one with its body inside.
-#[derive(Drop)]
+#[derive(Clone, Copy)]
 pub enum Read {
     Entry(SheetEntry),
     NoEntry,

@@ -1,5 +1,6 @@
 // The program `rounds`: one sheet from standard input, at most its first 32,768 bytes, and its text to standard output. What is
 // printed is made by `text_of`; here is only reading and writing. Where the input fails before its end nothing is printed.
+#![tactic(auto)]
 use libc::{STDIN_FILENO, STDOUT_FILENO};
 use text::text_of;
 

@@ -22,9 +22,9 @@ module _ {p : Policy} where
   pub computed_run : {s : State} → Sound s → (cs : List Command) → Run p s cs (said_by p s cs) (end_of p s cs)
   unfolding said_by end_of
   computed_run i [] = ends
-  computed_run i (c ∷ cs) =
+  computed_run {s = s} i (c ∷ cs) =
       let st = computed_step i c in
-      then st (computed_run (step_kept Sound (sound_kept p) st i) cs)
+      then st (computed_run {s = (next_outcome p s c).next} (step_kept Sound (sound_kept p) st i) cs)
 
 -- every list of commands has a run from a fresh token
 pub has_run : (p : Policy) (cs : List Command) → Run p fresh cs (said_by p fresh cs) (end_of p fresh cs)

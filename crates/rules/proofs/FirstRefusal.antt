@@ -34,6 +34,7 @@ Ascends low high ((n if test) ∷ list) = (low ≤ n) × (n ≤ high) × Ascends
 -- each number of an ascending list lies between its ends
 bounded : (low high : ℕ) (list : List Refusal) → Ascends low high list → (n : ℕ) (test : Bool) → (n if test) ∈ list →
     (low ≤ n) × (n ≤ high)
+bounded low high [] up n test x'' = elim x'' [ ]
 bounded low high ((m if t) ∷ list) up n test (Memᴰ.head q) = let e : m ≡ n = cc in (omega arith, omega arith)
 bounded low high ((m if t) ∷ list) up n test (Memᴰ.tail h) =
     let b : (suc m ≤ n) × (n ≤ high) = bounded (suc m) high list up.2 n test h in

@@ -1,6 +1,6 @@
 -- Two facts about the handles of a token: a fresh one has none live, and a live one stands among them with the key of its
 -- number. Rests on Named.
-use Prim.Native.Nat.{ℕ, suc}
+use Prim.Native.Nat.{ℕ, suc, zero}
 use mathlib.Core.Path.{◌≡◌, sym, ap, subst}
 use mathlib.Core.List.Memᴰ
 use lib.ListN.{replicate}
@@ -9,6 +9,7 @@ use Rattle.rules.specs.State.{Now, Slot, dead, live, most_handles, fresh, slot, 
 use Rattle.rules.proofs.Named.{Live}
 
 all_dead : {x : Slot} (n : ℕ) → x ∈ replicate n dead → x ≡ dead
+all_dead zero x'' = elim x'' [ ]
 all_dead (suc n) (Memᴰ.head q) = q
 all_dead (suc n) (Memᴰ.tail m) = all_dead n m
 

@@ -1,20 +1,21 @@
 // The shapes that document 01 names: the three counts, a term in its entry, what a live handle stands for, a command; what an entry
 // names, and a command from its bytes. Everything above is made of these small values.
+#![tactic(auto)]
 pub mod entries;
 pub mod parse;
 
 // Handle numbers, key numbers and term numbers are three separate counts.
-#[derive(Drop)]
+#[derive(Clone, Copy)]
 pub struct HandleNo(pub u8);
 
-#[derive(Drop)]
+#[derive(Clone, Copy)]
 pub struct KeyNo(pub u16);
 
-#[derive(Drop)]
+#[derive(Clone, Copy)]
 pub struct TermNo(pub u16);
 
 // A term: a data item, a key, or a seal of a term under a key.
-#[derive(Drop)]
+#[derive(Clone, Copy)]
 pub enum Term {
     Data,
     Key(KeyNo),
@@ -22,27 +23,27 @@ pub enum Term {
 }
 
 // What is marked of a term: the caller can work it out; it is the caller's own.
-#[derive(Drop)]
+#[derive(Clone, Copy)]
 pub struct Marks {
     pub held: bool,
     pub own: bool,
 }
 
-#[derive(Drop)]
+#[derive(Clone, Copy)]
 pub struct Entry {
     pub term: Term,
     pub marks: Marks,
 }
 
 // What a live handle stands for: a key, that key's term, and the flag byte.
-#[derive(Drop)]
+#[derive(Clone, Copy)]
 pub struct Slot {
     pub key: KeyNo,
     pub term: TermNo,
     pub flags: u8,
 }
 
-#[derive(Drop)]
+#[derive(Clone, Copy)]
 pub enum Command {
     Generate(u8),
     Wrap(HandleNo, HandleNo),
@@ -57,21 +58,21 @@ pub enum Command {
 }
 
 // An entry of a sheet: the command number that it names, and the command that it states.
-#[derive(Drop)]
+#[derive(Clone, Copy)]
 pub struct SheetEntry {
     pub number: u8,
     pub command: Command,
 }
 
 // A command number and a body, read.
-#[derive(Drop)]
+#[derive(Clone, Copy)]
 pub enum Parsed {
     Known(Command),
     Unknown,
 }
 
 // The number that a new handle takes, where one is left.
-#[derive(Drop)]
+#[derive(Clone, Copy)]
 pub enum Free {
     At(HandleNo),
     Full,

@@ -29,6 +29,7 @@ module _ {own given : List Term} where
   -- every entry of a working is derived
   working_derives : {l : List Term} {m : Term} → Working own given l → m ∈ l → Derives own given m
   working_derives (then {m = x} w e) (Memᴰ.head q) = rw q (entry_derives (λ x h. working_derives w h) e)
+  working_derives {m = m} nothing x3 = elim x3 [ ]
   working_derives (then w e) (Memᴰ.tail h) = working_derives w h
 
   -- what is held is derived

@@ -2,7 +2,7 @@
 -- Rests on specs/Following.antt.
 use Prim.Native.Nat.{ℕ}
 use mathlib.Core.List.Memᴰ
-use mathlib.Core.List.{List, ◌∷◌}
+use mathlib.Core.List.{List, [], ◌∷◌}
 use mathlib.Core.Path.{refl, ap}
 use Rattle.terms.specs.Lists.{◌∈◌}
 use Rattle.terms.specs.Terms.{Term, item, key, seal}
@@ -25,6 +25,7 @@ in_keys (Memᴰ.tail {x = x} {xs = l} h) = keys_more x l (in_keys h)
 pub keys_in : {k : ℕ} (l : List Term) → k ∈ keys_of l → key k ∈ l
 unfolding keys_of
 keys_in (item n ∷ l) h = Memᴰ.tail (keys_in l h)
+keys_in {k = k} [] h = elim h [ ]
 keys_in (key j ∷ l) (Memᴰ.head q) = Memᴰ.head (ap key q)
 keys_in (key j ∷ l) (Memᴰ.tail h) = Memᴰ.tail (keys_in l h)
 keys_in (seal j m ∷ l) h = Memᴰ.tail (keys_in l h)
@@ -47,6 +48,7 @@ in_links (Memᴰ.tail {x = x} {xs = l} h) = links_more x l (in_links h)
 pub links_in : {j k : ℕ} (l : List Term) → j under k ∈ links_of l → seal k (key j) ∈ l
 unfolding links_of
 links_in (item n ∷ l) h = Memᴰ.tail (links_in l h)
+links_in {j = j} {k = k} [] h = elim h [ ]
 links_in (key i ∷ l) h = Memᴰ.tail (links_in l h)
 links_in (seal i (item n) ∷ l) h = Memᴰ.tail (links_in l h)
 links_in {j} {k} (seal i (key n) ∷ l) (Memᴰ.head q) = Memᴰ.head {x = seal i (key n)} (cc)

@@ -56,7 +56,7 @@ pub listed_false : (table : Table) (m : Term) → listed table m ≡ false → �
 listed_false table m e h = true≢false (sym (in_listed h) ∙ e)
 
 -- a term of the table stands at its number
-pub number_at : {table : Table} {m : Term} → m ∈ table → get_elem? table (number_of table m) ≡ some m
+pub number_at : {m : Term} {table : Table} → m ∈ table → get_elem? table (number_of table m) ≡ some m
 unfolding number_of
 number_at {m = m} (Memᴰ.head {x = x} q) = let e : same m x ≡ true = rw (← q) (same_self m) in rw (e, q)
 number_at {m = m} (Memᴰ.tail {x = x} {xs = table} h) =

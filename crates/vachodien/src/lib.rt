@@ -1,4 +1,5 @@
 // The library as a host calls it: each function is exported for C, takes any buffers, and gives one number back.
+#![tactic(auto)]
 ghost use Rattle.std.specs.Prelude.{◌≡◌};
 ghost use Rattle.reader.specs.Reader.{checked, checked_number};
 ghost use Rattle.writer.specs.Writer.{wrote};

@@ -1,6 +1,7 @@
 // The ten starred exercises of document 01, A to J, run through `text_of`, which makes what `rounds` prints: for each sheet a line with
 // the exercise's letter, then the sheet's text. J has two sheets, and its letter stands before each. The stored output is worked out by
 // hand from the document. A sheet's bytes stand on three lines: policy and count, the entries, the bodies. g = GENERATE.
+#![tactic(auto)]
 use libc::STDOUT_FILENO;
 use text::text_of;
 

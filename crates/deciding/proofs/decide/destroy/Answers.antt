@@ -1,0 +1,13 @@
+-- `deciding::decide::destroy` meets its contract: at each return the handle is dead, or live.
+-- Assumes nothing.
+use borrow.Author.Rules.{rules}
+use Rattle.rules.specs.Refusals.{first}
+use Rattle.deciding.proofs.decide.destroy.Goals as goal
+
+pub returns-in_default : goal.returns-in_default
+unfolding first
+returns-in_default c = simp (c.refused.ensures, c.in_default.is)
+
+pub returns : goal.returns
+unfolding first
+returns c = simp (c.done.ensures, c.in-Live.is)

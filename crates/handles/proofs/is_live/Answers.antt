@@ -1,0 +1,7 @@
+-- `live::is_live` reads a handle's bit. Rests on the laws of the words.
+use borrow.Author.Rules.{rules}
+use Rattle.handles.proofs.LiveWordsCode.{bit_read}
+use Rattle.handles.proofs.is_live.Goals as goal
+
+pub returns : goal.returns
+returns c = bit_read c.args.live c.args.h.0

@@ -1,0 +1,28 @@
+-- `entry` meets its contract: it reads the number and the body that are there (Tests). Assumes nothing.
+use mathlib.Core.Path.{◌∙◌, ap, sym}
+use Rattle.reader.specs.Reader.{read_as}
+use Rattle.reader.proofs.Tests.{passed, failed, inside, no_entry, the_entry}
+use borrow.Author.Rules.{rules}
+use Rattle.reader.proofs.entry.Goals as goal
+
+pub returns-then-not-has_body : goal.returns-then-not-has_body
+returns-then-not-has_body c = sym (no_entry _ _ (failed c.has_body.ensures c.if-not-has_body.true-raw))
+
+pub number_at-number-requires : goal.number_at-number-requires
+number_at-number-requires c = (inside _ _ (passed c.has_body.ensures c.if-not-has_body.false-raw)).entry_inside
+
+pub returns-in-Known : goal.returns-in-Known
+unfolding read_as
+returns-in-Known c = ap (read_as c.number_at-number.result) (sym c.in-Known.is)
+    ∙ the_entry _ _ _ _ _
+    (passed c.has_body.ensures c.if-not-has_body.false-raw)
+    c.number_at-number.ensures c.body.ensures
+    c.parse-parsed.ensures
+
+pub returns-in-Unknown : goal.returns-in-Unknown
+unfolding read_as
+returns-in-Unknown c = ap (read_as c.number_at-number.result) (sym c.in-Unknown.is)
+    ∙ the_entry _ _ _ _ _
+    (passed c.has_body.ensures c.if-not-has_body.false-raw)
+    c.number_at-number.ensures c.body.ensures
+    c.parse-parsed.ensures

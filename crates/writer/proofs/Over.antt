@@ -46,6 +46,7 @@ module _ (w e before : List ℕ) (at : ℕ) (out back : List ℕ) (so_long : len
 pub over_three : (a number : ℕ) (out : List ℕ) → 3 ≤ length out → (b c : ℕ) → two number ≡ b ∷ c ∷ []
     → set (set (set out 0 a) 1 b) 2 c ≡ over (a ∷ two number) out
 unfolding over
+over_three a number [] h b c e = elim h [ ]
 over_three a number (x ∷ []) h b c e = absurd (omega arith)
 over_three a number (x ∷ (y ∷ [])) h b c e = absurd (omega arith)
 over_three a number (x ∷ (y ∷ (z ∷ out))) h b c e = rw e

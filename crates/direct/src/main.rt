@@ -12,7 +12,7 @@ use libc::{STDIN_FILENO, STDOUT_FILENO};
 use token::Token;
 
 // How many bytes of the input are used up, and how many of the output are written.
-#[derive(Drop)]
+#[derive(Clone, Copy)]
 struct Progress {
     read: usize,
     written: usize,

@@ -19,7 +19,7 @@ use token::{Token, fresh};
 
 // The numbers that a command names, 0 where it names none. The terms that it looks at are its handles' own, or the first one and
 // what that seals, or the two that it names; and it is the caller's own computing, or the token's.
-#[derive(Drop)]
+#[derive(Clone, Copy)]
 pub struct Names {
     pub a: HandleNo,
     pub b: HandleNo,
@@ -31,7 +31,7 @@ pub struct Names {
 }
 
 // The slot that a change stores, and the live words that it leaves.
-#[derive(Drop)]
+#[derive(Clone, Copy)]
 pub struct SlotPut {
     pub number: HandleNo,
     pub slot: Slot,
@@ -39,7 +39,7 @@ pub struct SlotPut {
 }
 
 // The entry that a change stores, and the counts that it leaves.
-#[derive(Drop)]
+#[derive(Clone, Copy)]
 pub struct EntryPut {
     pub at: usize,
     pub entry: Entry,
@@ -48,14 +48,14 @@ pub struct EntryPut {
 }
 
 // The term whose leak is to be followed.
-#[derive(Drop)]
+#[derive(Clone, Copy)]
 pub enum Leak {
     Of(TermNo),
     Nothing,
 }
 
 // What the direct call gives back.
-#[derive(Drop)]
+#[derive(Clone, Copy)]
 pub struct Called {
     pub token: Token,
     pub answer: u8,
@@ -63,7 +63,7 @@ pub struct Called {
 }
 
 // What running a sheet leaves: what the sheet was found to be, and the token at the end.
-#[derive(Drop)]
+#[derive(Clone, Copy)]
 pub struct Ran {
     pub checked: Checked,
     pub token: Token,

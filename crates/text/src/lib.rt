@@ -20,7 +20,7 @@ use running::run;
 use token::Token;
 
 // How many commands were answered 0, and how many were not.
-#[derive(Drop)]
+#[derive(Clone, Copy)]
 pub struct Tally {
     pub done: u16,
     pub refused: u16,

@@ -42,7 +42,7 @@ pub fn known_count(token: Token) -> u16
 
 // Writes the numbers of the known keys, two bytes each.
 fn write_keys(table: Table, out: &mut [u8])
-    requires* { do ⌜ 2 * length (marked_keys table.entries) ≤ (← ⟦out.len()⟧) ⌝ }
+    requires { 2 * length (marked_keys table.entries) ≤ length out.old }
     ensures { out.new ≡ over (keys_bytes (marked_keys table.entries)) out.old }
 {
     let mut i: usize = 0;

@@ -9,7 +9,7 @@ ghost use Rattle.token.specs.Known.{blank_token};
 use shapes::{Entry, KeyNo, Marks, Slot, Term, TermNo};
 
 // The terms by number, and how many terms and keys there are. Past the last term every entry is blank.
-#[derive(Drop)]
+#[derive(Clone, Copy)]
 pub struct Table {
     pub entries: [Entry; 1024],
     pub terms: u16,
@@ -19,7 +19,7 @@ pub struct Table {
 // Ways through the seals, each link one more than a term number, or 0 for none: by key the newest seal under it, and from a seal the
 // next older one under the same key; by bucket the newest seal of it, and from a seal the next older one of the same bucket. The
 // code of a seal is a number that no other seal has.
-#[derive(Drop)]
+#[derive(Clone, Copy)]
 pub struct Links {
     pub newest: [u16; 1024],
     pub older: [u16; 1024],
@@ -29,13 +29,13 @@ pub struct Links {
 }
 
 // The handles by number, blank where not live, and which are live: handle h is bit h % 64 of word h / 64.
-#[derive(Drop)]
+#[derive(Clone, Copy)]
 pub struct Hands {
     pub slots: [Slot; 256],
     pub live: [u64; 4],
 }
 
-#[derive(Drop)]
+#[derive(Clone, Copy)]
 pub struct Token {
     pub table: Table,
     pub links: Links,
@@ -43,14 +43,14 @@ pub struct Token {
 }
 
 // The list of known keys in a buffer: so many were written, or the buffer is too short.
-#[derive(Drop)]
+#[derive(Clone, Copy)]
 pub enum Listed {
     Keys(u16),
     Short,
 }
 
 // Where a key comes from.
-#[derive(Drop)]
+#[derive(Clone, Copy)]
 pub enum Origin {
     Generated,
     Own,

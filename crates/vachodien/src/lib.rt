@@ -13,7 +13,7 @@ use writer::{Written, write};
 mod report;
 
 // A report of so many bytes was written, or the buffer is too short.
-#[derive(Drop)]
+#[derive(Clone, Copy)]
 pub enum Reported {
     Report(u16),
     Short,

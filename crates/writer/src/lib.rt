@@ -10,7 +10,7 @@ ghost use Rattle.writer.specs.Parts.{found_as, AllHeld, Ready, IsUnholdable};
 use shapes::parse::{body_length, known_number};
 
 // What the writer answers: the sheet was written, so many bytes; the place of what no sheet can hold; the buffer is too short.
-#[derive(Drop)]
+#[derive(Clone, Copy)]
 pub enum Written {
     Sheet(u16),
     Malformed(u16),
@@ -18,7 +18,7 @@ pub enum Written {
 }
 
 // What is found in what is handed over: a sheet of so many bytes, or what no sheet can hold, by its place.
-#[derive(Drop)]
+#[derive(Clone, Copy)]
 enum Found {
     Long(usize),
     Fault(u16),

@@ -6,9 +6,6 @@ use mathlib.Core.Path.{◌≡◌, refl, sym, ◌∙◌, ap, subst}
 use mathlib.Core.Bool.{Bool, true, false}
 use mathlib.Core.List.{List, [], ◌∷◌}
 use mathlib.Core.Logic.{⊎_elim}
-use types.Run.{OneOf}
-use denote.Enum.Declared.{tag_of}
-use Rattle.deciding.specs.contracts.Change.{the_type}
 use native.Mathlib.Omega.{arith}
 use lib.ListN.{length, get_or, set}
 use lib.Seq.{set-get_or}
@@ -67,27 +64,12 @@ hands_set : (t : Token) {g : ℕ} {s : Slot} {to : Bool} (put : SlotPut) → Han
 hands_set t put e =
     record { slots_set = rw (e.of_number, e.of_slot) refl; live_set = e.of_live }
 
--- a number that is none of a list's
-abbrev NoneOf : List ℕ → ℕ → Type 0
-NoneOf [] n = Unit {0}
-NoneOf (k ∷ ks) n = (n ≡ k → ⊥) × NoneOf ks n
-
-not_one : (k : ℕ) (ks : List ℕ) (n : ℕ) → NoneOf (k ∷ ks) n → OneOf (k ∷ ks) n → ⊥
-not_one k [] n f e = f.0 e
-not_one k (l ∷ ks) n f e = ⊎_elim f.0 (not_one l ks n f.1) e
-
--- by the number of its case: not a seal, not a key that becomes known
+-- not a seal, not a key that becomes known
 abbrev pub NoSeal : Change → Type 0
-NoSeal change = OneOf (0 ∷ 1 ∷ 2 ∷ 3 ∷ 4 ∷ 5 ∷ 7 ∷ []) (tag_of the_type change)
-
-no_seal : (k : KeyNo) (p : TermNo) (leaks : Bool) → NoSeal (NewSeal k p leaks) → ⊥
-no_seal k p leaks = not_one 0 (1 ∷ 2 ∷ 3 ∷ 4 ∷ 5 ∷ 7 ∷ []) 6 ((λ e. omega (arith, e)), ((λ e. omega (arith, e)), ((λ e. omega (arith, e)), ((λ e. omega (arith, e)), ((λ e. omega (arith, e)), ((λ e. omega (arith, e)), ((λ e. omega (arith, e)), tt)))))))
+NoSeal change = (k : KeyNo) (p : TermNo) (leaks : Bool) → change ≡ NewSeal k p leaks → ⊥
 
 abbrev pub NotKnown : Change → Type 0
-NotKnown change = OneOf (0 ∷ 1 ∷ 2 ∷ 3 ∷ 4 ∷ 5 ∷ 6 ∷ []) (tag_of the_type change)
-
-not_known : (p : TermNo) → NotKnown (Know p) → ⊥
-not_known p = not_one 0 (1 ∷ 2 ∷ 3 ∷ 4 ∷ 5 ∷ 6 ∷ []) 7 ((λ e. omega (arith, e)), ((λ e. omega (arith, e)), ((λ e. omega (arith, e)), ((λ e. omega (arith, e)), ((λ e. omega (arith, e)), ((λ e. omega (arith, e)), ((λ e. omega (arith, e)), tt)))))))
+NotKnown change = (p : TermNo) → change ≡ Know p → ⊥
 
 -- then the links stay as they are, and there is no leak
 pub links_kept : (change : Change) → NoSeal change → (links : Links) (terms : ℕ) → links ≡ links_stored change links terms
@@ -98,7 +80,7 @@ links_kept (Release n) a links terms = refl
 links_kept (NewKey n f) a links terms = refl
 links_kept OwnKey a links terms = refl
 links_kept OwnData a links terms = refl
-links_kept (NewSeal k p leaks) a links terms = absurd (no_seal k p leaks a)
+links_kept (NewSeal k p leaks) a links terms = absurd (a k p leaks refl)
 links_kept (Know p) a links terms = refl
 
 pub leak_none : (change : Change) → NoSeal change → NotKnown change → No ≡ leak_of change
@@ -109,8 +91,8 @@ leak_none (Release n) a b = refl
 leak_none (NewKey n f) a b = refl
 leak_none OwnKey a b = refl
 leak_none OwnData a b = refl
-leak_none (NewSeal k p leaks) a b = absurd (no_seal k p leaks a)
-leak_none (Know p) a b = absurd (not_known p b)
+leak_none (NewSeal k p leaks) a b = absurd (a k p leaks refl)
+leak_none (Know p) a b = absurd (b p refl)
 
 -- there is room to link what is appended
 pub linkable : (t : Token) (change : Change) → Applicable t change → Linkable change t.table.terms

@@ -30,8 +30,8 @@ pub fn link<'a>(
     terms: u16,
 )
     requires { Linkable change terms }
-    ensures { record { newest = newest.exit.now; older = older.new; heads = heads.new; chain = chain.new; codes = codes.new }
-        ≡ links_stored change (record { newest = newest.entry.now; older = older.old; heads = heads.old; chain = chain.old; codes = codes.old }) terms }
+    ensures { record { newest = newest.new; older = older.new; heads = heads.new; chain = chain.new; codes = codes.new }
+        ≡ links_stored change (record { newest = newest.old; older = older.old; heads = heads.old; chain = chain.old; codes = codes.old }) terms }
 {
     let Change::NewSeal(k, p, _) = change else {
         return;

@@ -1,0 +1,14 @@
+-- `tally_of` meets its contract: with i records behind, those are counted (Counts).
+use Prim.Native.Nat.{◌-◌}
+use Rattle.text.proofs.Counts.{Tallied, tallied_none, tallied_room, tallied_next, tallied_all}
+use borrow.Author.Rules.{rules}
+use Rattle.text.proofs.counting.tally_of.Goals as goal
+
+pub loop-i-init : goal.loop-i-init
+loop-i-init c = tallied_none _ _
+
+pub recorded-t-requires : goal.recorded-t-requires
+recorded-t-requires c = tallied_room _ _ _ _ c.loop-i.invariant c.requires
+
+pub loop-i-preserved : goal.loop-i-preserved
+loop-i-preserved c = tallied_next _ _ _ _ c.loop-i.invariant c.loop-i-test.true _ c.recorded-t.ensures

@@ -1,0 +1,13 @@
+-- `write_lines` meets its contract: with i lines behind, those are written (CommandLines).
+use Prim.Native.Nat.{◌-◌}
+use native.Mathlib.Omega.{arith}
+use Rattle.text.proofs.Placed.{wrote_length}
+use Rattle.text.proofs.CommandLines.{Lined, lined_none, lined_room, lined_next, lined_all}
+use borrow.Author.Rules.{rules}
+use Rattle.text.proofs.lines.write_lines.Goals as goal
+
+pub loop-i-init : goal.loop-i-init
+loop-i-init c = lined_none _ _ _ _ _ (omega arith)
+
+pub loop-i-preserved : goal.loop-i-preserved
+loop-i-preserved c = lined_next _ _ _ _ _ _ _ _ c.loop-i.invariant c.loop-i-test.true _ c.two-value.ensures c.write_line-to.ensures

@@ -1,0 +1,13 @@
+-- `write_lines` meets its contract: with i lines behind, those are written (CommandLines).
+use Prim.Native.Nat.{◌-◌}
+use native.Mathlib.Omega.{arith}
+use Rattle.text.proofs.Placed.{wrote_length}
+use Rattle.text.proofs.CommandLines.{Lined, lined_none, lined_room, lined_next, lined_all}
+use borrow.Author.Rules.{rules}
+use Rattle.text.proofs.lines.write_lines.Given as goal
+
+abbrev pub invariant-loop-i : goal.invariant-loop-i
+invariant-loop-i l = Lined l.sheet l.records l.n l.initial.out l.at l.i l.out l.to
+
+abbrev pub decreases-loop-i : goal.decreases-loop-i
+decreases-loop-i l = l.n - l.i

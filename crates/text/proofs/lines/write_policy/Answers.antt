@@ -1,0 +1,10 @@
+-- `write_policy` meets its contract: the policy's row of the table, as far as it is long (NameTable).
+use native.Mathlib.Omega.{arith}
+use Rattle.text.specs.Text.{word}
+use Rattle.text.proofs.NameTable.{policies, policy_inside, wrote_policy}
+use borrow.Author.Rules.{rules}
+use Rattle.text.proofs.lines.write_policy.Goals as goal
+
+pub returns : goal.returns
+unfolding policies word
+returns c = wrote_policy _ _ c.policy_row-row.ensures c.write_part.ensures

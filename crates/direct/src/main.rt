@@ -3,12 +3,12 @@
 // body. Each sequence begins with a fresh token. Standard output has three bytes for each call: the answer, and its value in two
 // bytes. Where the input is cut off the work ends, and what was answered before is written.
 #![tactic(auto)]
-ghost use Rattle.std.specs.Prelude.{◌+◌, ◌≤◌, ◌≡◌, length};
-ghost use Rattle.io.specs.Counts.{IsPrefixLen};
+ghost use Rattle.std.specs.Prelude.{◌+◌, ◌≤◌, ◌≡◌, length, IfOk};
 ghost use Rattle.running.specs.Direct.{Reached};
-ghost use Rattle.direct.specs.Progress.{Room, Underway};
+ghost use Rattle.direct.specs.Progress.{Room, Underway, IsPrefixLen};
 
-use libc::{STDIN_FILENO, STDOUT_FILENO};
+use std::io;
+use std::io::{Read, Write};
 use token::Token;
 
 // How many bytes of the input are used up, and how many of the output are written.
@@ -98,10 +98,25 @@ fn sequences(input: &[u8], out: &mut [u8]) -> usize
     written
 }
 
-fn main() {
-    let mut space = io::large_buffer();
-    let n = io::read_full(STDIN_FILENO, &mut space);
+// Reads until the bytes are full or the input ends, and gives how many there are.
+fn read_full<R: Read + Drop>(mut input: R, bytes: &mut [u8]) -> io::Result<usize>
+    ensures { IfOk result (λ n. n ≤ length bytes.new) }
+{
+    let mut n: usize = 0;
+    while n < bytes.len() {
+        let more = input.read(&mut bytes[n..])?;
+        if more == 0 {
+            return Ok(n);
+        }
+        n += more;
+    }
+    Ok(n)
+}
+
+fn main(rt: HostRuntime) -> io::Result<()> {
+    let mut space = [0u8; 65536];
+    let n = read_full(rt.stdin(), &mut space)?;
     let mut out = [0u8; 98304];
     let long = sequences(&space[..n], &mut out);
-    io::write_all(STDOUT_FILENO, &out[..long]);
+    io::writer(&rt).write_all(&out[..long])
 }

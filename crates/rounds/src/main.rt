@@ -1,29 +1,36 @@
 // The program `rounds`: one sheet from standard input, at most its first 32,768 bytes, and its text to standard output. What is
 // printed is made by `text_of`; here is only reading and writing. Where the input fails before its end nothing is printed.
 #![tactic(auto)]
-use libc::{STDIN_FILENO, STDOUT_FILENO};
+ghost use Rattle.std.specs.Prelude.{◌≤◌, length, IfOk};
+
+use std::io;
+use std::io::{Read, Write};
 use text::text_of;
 
-// Is there nothing more to read? A read that fails, or that finds more after one that was cut short, says no.
-fn ended() -> bool {
-    let mut probe = [0u8; 1];
-    libc::read(STDIN_FILENO, &mut probe) == 0
+// Reads until the bytes are full or the input ends, and gives how many there are.
+fn read_full<R: Read + Drop>(mut input: R, bytes: &mut [u8]) -> io::Result<usize>
+    ensures { IfOk result (λ n. n ≤ length bytes.new) }
+{
+    let mut n: usize = 0;
+    while n < bytes.len() {
+        let more = input.read(&mut bytes[n..])?;
+        if more == 0 {
+            return Ok(n);
+        }
+        n += more;
+    }
+    Ok(n)
 }
 
 // Prints the text of a sheet, whole.
-fn print(sheet: &[u8]) {
+fn print<R: Print>(rt: &R, sheet: &[u8]) -> io::Result<()> {
     let mut out = [0u8; 131072];
     let long = text_of(sheet, &mut out);
-    io::write_all(STDOUT_FILENO, &out[0..long]);
+    io::writer(rt).write_all(&out[0..long])
 }
 
-fn main() {
+fn main(rt: HostRuntime) -> io::Result<()> {
     let mut sheet = [0u8; 32768];
-    let n = io::read_full(STDIN_FILENO, &mut sheet);
-    if n < 32768 {
-        if !ended() {
-            return;
-        }
-    }
-    print(&sheet[0..n]);
+    let n = read_full(rt.stdin(), &mut sheet)?;
+    print(&rt, &sheet[0..n])
 }

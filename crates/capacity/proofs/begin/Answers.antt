@@ -6,15 +6,8 @@ use Rattle.sheets.specs.Sheets.{policy_number}
 use Rattle.token.specs.declared.Token.{Token}
 use Rattle.running.specs.Direct.{Reached}
 use Rattle.running.proofs.Going.{reached_fresh}
-use Rattle.capacity.proofs.begin.Statement.{statement}
-use Rattle.capacity.proofs.begin.Tie as tie
+use Rattle.capacity.proofs.begin.Goals as goal
 
-fresh-requires : tie.Need-fresh-requires
-fresh-requires c κs = search rules
-
-returns : tie.Need-returns
+pub returns : goal.returns
 unfolding policy_number
 returns c = subst (λ (t : Token). Reached t 0) (sym c.fresh.ensures) (reached_fresh plain)
-
-pub begin-spec : {M : Type 1} → statement M
-begin-spec = tie.close (tie.spec fresh-requires returns)

@@ -1,4 +1,4 @@
-// The library as a host calls it: each function is exported for C, takes any buffers, and gives one number back.
+// The library as a host calls it (vachodien_c exports each function for C): it takes any buffers, and gives one number back.
 #![tactic(auto)]
 ghost use Rattle.std.specs.Prelude.{◌≡◌};
 ghost use Rattle.reader.specs.Reader.{checked, checked_number};
@@ -21,8 +21,7 @@ pub enum Reported {
 
 // The whole job: the sheet is checked, run from a fresh token under its policy, and reported into the buffer. The number given is the
 // answer times 65,536, plus the report length for 0, the place for 12, nothing for 13.
-#[unsafe(no_mangle)]
-pub extern "C" fn vachodien_report(sheet: &[u8], buffer: &mut [u8]) -> u32
+pub fn vachodien_report(sheet: &[u8], buffer: &mut [u8]) -> u32
     ensures { CalledOn sheet.now buffer.old buffer.new result }
 {
     let mut records = [0u8; 12288];
@@ -42,8 +41,7 @@ pub extern "C" fn vachodien_report(sheet: &[u8], buffer: &mut [u8]) -> u32
 }
 
 // Checks a sheet and runs nothing: 0 with the count of a good sheet, 12 with the place of a malformed one.
-#[unsafe(no_mangle)]
-pub extern "C" fn vachodien_check(sheet: &[u8]) -> u32
+pub fn vachodien_check(sheet: &[u8]) -> u32
     ensures { result ≡ checked_number (checked sheet.now) }
 {
     let checked = check(sheet);
@@ -55,8 +53,7 @@ pub extern "C" fn vachodien_check(sheet: &[u8]) -> u32
 
 // Writes the sheet of commands that are handed over in records of six bytes: 0 with the sheet's length, 12 with the place of what no
 // sheet can hold, 13.
-#[unsafe(no_mangle)]
-pub extern "C" fn vachodien_write(policy: u8, count: u16, handed: &[u8], sheet: &mut [u8]) -> u32
+pub fn vachodien_write(policy: u8, count: u16, handed: &[u8], sheet: &mut [u8]) -> u32
     ensures { SheetWritten policy count handed.now sheet.old sheet.new result }
 {
     let written = write(policy, count, handed, sheet);

@@ -2,6 +2,7 @@
 // each call: command number, answer, value. First 257 times GENERATE; then from a fresh token OWN KEY, OWN DATA, SEAL 0 1, 1,021 times
 // OWN DATA, one more, and SEAL 0 1 again.
 #![tactic(auto)]
+
 ghost use Rattle.std.specs.Prelude.{IfOk};
 ghost use Rattle.running.specs.Direct.{Reached};
 

@@ -1,7 +1,7 @@
 -- For each command the tests under which its decision is a given answer, in the order in which the code asks them: a section for
 -- each test that is passed. A test that a function of the code asks comes as its result, with what that function says of it.
 -- Assumes nothing.
-use mathlib.Core.Path.{◌≡◌, refl}
+use mathlib.Core.Path.{◌≡◌}
 use mathlib.Core.Bool.{Bool, true, false, not, ◌&&◌, ◌||◌}
 use mathlib.Core.List.{[], ◌∷◌}
 use Prim.Native.Nat.{ℕ, ◌<◌, ◌≤◌}

@@ -1,13 +1,13 @@
 -- The rules of the code's constant tables: flags needed, by the one law on tables; flag bytes granted, row by row. Rests on that law
 -- (shapes Tables).
 use mathlib.Core.Path.{◌≡◌, refl, sym}
-use mathlib.Core.Bool.{Bool, true, false, ◌&&◌, ◌||◌, or-false, or_self, false≢true}
+use mathlib.Core.Bool.{◌||◌, or-false, or_self}
 use mathlib.Core.List.{List, [], ◌∷◌}
 use Prim.Native.Nat.{ℕ, zero, suc, ◌+◌, ◌*◌, ◌/◌, ◌%◌, ◌<◌}
 use native.Mathlib.Omega.{arith}
 use lib.Dec.{eqb, leb}
-use lib.ListN.{length, get_or}
-use borrow.Author.Tests.{eqb-true, le-leb}
+use lib.ListN.{get_or}
+use borrow.Author.Tests.{le-leb}
 use Rattle.terms.specs.Lists.{some_of, is_in}
 use Rattle.rules.specs.Flags.{value}
 use Rattle.rules.specs.Templates.{plain, stp+, Making, by-generate, by-unwrap, templates, grants}

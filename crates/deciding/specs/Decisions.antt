@@ -1,17 +1,14 @@
 -- What each command comes to on the small values that it sees (a View): the first refusal that applies, in document 01's order,
 -- or the value and what changes. Each list of refusals is that command's part of `refusals` (crates/rules/specs/Refusals.antt);
 -- that the two agree where the view is the state's is proved (crates/running/proofs/Decided.antt). Assumes nothing.
-use Rattle.std.specs.Prelude.{ℕ, zero, suc, Bool, true, false, not, ◌&&◌, ◌||◌, cond, List, [], ◌∷◌, eqb, leb, ltb}
+use Rattle.std.specs.Prelude.{ℕ, zero, suc, Bool, true, false, not, ◌&&◌, ◌||◌, cond, [], ◌∷◌, leb}
 use Rattle.rules.specs.Flags.{W, U, E, D, X, N, T, has}
-use Rattle.rules.specs.Templates.{Policy, plain, stp, stp+, Making, by-generate, by-unwrap, templates, grants}
-use Rattle.rules.specs.Refusals.{Refusal, ◌if◌, first, no_keys_encrypted}
+use Rattle.rules.specs.Templates.{Making, by-generate, by-unwrap, templates, grants}
+use Rattle.rules.specs.Refusals.{◌if◌, first, no_keys_encrypted}
 use Rattle.rules.specs.State.{most_terms}
 use Rattle.sheets.specs.Reading.{read_policy}
-use Rattle.shapes.specs.declared.KeyNo.{KeyNo}
 use Rattle.shapes.specs.declared.TermNo.{TermNo}
 use Rattle.shapes.specs.declared.HandleNo.{HandleNo}
-use Rattle.shapes.specs.declared.Term.TheVariants.{Data, Key, Seal}
-use Rattle.shapes.specs.declared.Term.{Term as Kind}
 use Rattle.shapes.specs.declared.Entry.{Entry}
 use Rattle.shapes.specs.declared.Slot.{Slot}
 use Rattle.deciding.specs.declared.Handle.{Handle}

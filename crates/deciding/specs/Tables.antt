@@ -1,7 +1,7 @@
 -- What the constant tables of the code state, by number: the flag bytes granted, and the flag needed on a command's first handle.
 -- Assumes nothing.
-use Rattle.std.specs.Prelude.{ℕ, zero, suc, ◌/◌, ◌%◌, Bool, not, eqb}
-use Rattle.rules.specs.Flags.{Flag, W, U, E, D, has}
+use Rattle.std.specs.Prelude.{ℕ, zero, suc, ◌/◌, ◌%◌, Bool, eqb}
+use Rattle.rules.specs.Flags.{Flag, W, U, E, D}
 use Rattle.rules.specs.Templates.{Making, by-generate, by-unwrap}
 
 -- the two ways to make a handle, by number

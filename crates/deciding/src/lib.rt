@@ -1,6 +1,7 @@
 // What each command comes to, decided on small values: what a command sees of a token, and the answer, the value and the change that
 // follow.
 #![tactic(auto)]
+
 pub mod decide;
 mod tables;
 

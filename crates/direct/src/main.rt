@@ -3,6 +3,7 @@
 // body. Each sequence begins with a fresh token. Standard output has three bytes for each call: the answer, and its value in two
 // bytes. Where the input is cut off the work ends, and what was answered before is written.
 #![tactic(auto)]
+
 ghost use Rattle.std.specs.Prelude.{◌+◌, ◌≤◌, ◌≡◌, length, IfOk};
 ghost use Rattle.running.specs.Direct.{Reached};
 ghost use Rattle.direct.specs.Progress.{Room, Underway, IsPrefixLen};

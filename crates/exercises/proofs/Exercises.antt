@@ -1,10 +1,10 @@
 -- The ten starred exercises of document 01 hold, all together: each reply is computed from the sheet's bytes and is what the
 -- document says; that what is computed is the reply of the definitions is proved of every byte string. Rests on sheets' Replied.
-use Prim.Native.Nat.{ℕ, zero, suc, ◌<◌, ◌/◌, ◌%◌}
+use Prim.Native.Nat.{ℕ, zero, suc, ◌/◌, ◌%◌}
 use mathlib.Core.Path.{◌≡◌, refl, sym, subst}
 use mathlib.Core.Logic.{⊎_elim}
 use mathlib.Core.List.Memᴰ
-use mathlib.Core.List.{List, [], ◌∷◌, ◌++◌, Memᴰ}
+use mathlib.Core.List.{List, [], ◌∷◌}
 use native.Mathlib.Omega.{arith}
 use Rattle.terms.specs.Lists.{◌∈◌}
 use Rattle.sheets.specs.Bytes.{Bytes}

@@ -3,7 +3,7 @@
 -- count, the entries, the bodies. Assumes nothing.
 use Rattle.std.specs.Prelude.{ℕ, zero, suc, ◌/◌, ◌%◌, ◌≡◌, List, [], ◌∷◌, ◌++◌}
 use Rattle.rules.specs.Runs.{Answer}
-use Rattle.sheets.specs.Reports.{Reply, malformed, reported, Replies, report_bytes}
+use Rattle.sheets.specs.Reports.{malformed, reported, Replies, report_bytes}
 
 -- the bytes that hexadecimal digits write, so many of them
 unfoldable pub hex : (bytes digits : ℕ) → List ℕ

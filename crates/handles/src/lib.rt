@@ -1,5 +1,6 @@
 // The live handles, as four words of 64 bits.
 #![tactic(auto)]
+
 ghost use Rattle.std.specs.Prelude.{◌≡◌, true, false};
 ghost use Rattle.handles.specs.Live.{bit, free_in, count_in, BitSet};
 

@@ -1,6 +1,7 @@
 // Reads a sheet: checked to its first fault, each body handed on as that part of the sheet itself, each entry as its command.
 // Nothing is copied, and no sheet is refused to be read: what each function gives is said for every byte string.
 #![tactic(auto)]
+
 ghost use Rattle.std.specs.Prelude.{◌≡◌};
 ghost use Rattle.reader.specs.Reader.{checked, body_at, entry_at};
 

@@ -1,6 +1,7 @@
 // The program `rounds`: one sheet from standard input, at most its first 32,768 bytes, and its text to standard output. What is
 // printed is made by `text_of`; here is only reading and writing. Where the input fails before its end nothing is printed.
 #![tactic(auto)]
+
 ghost use Rattle.std.specs.Prelude.{◌≤◌, length, IfOk};
 
 use std::io;

@@ -1,9 +1,9 @@
 -- What is known of a command that is done: each test of document 01's table of refusals says no. A fact is asked for by its
 -- name and never by its place in the order of asking. Rests on the definitions alone.
-use Prim.Native.Nat.{ℕ, zero, suc}
-use mathlib.Core.Path.{◌≡◌, refl, sym}
-use mathlib.Core.Bool.{Bool, true, false, ◌&&◌, cond}
-use mathlib.Core.List.{List, [], ◌∷◌}
+use Prim.Native.Nat.{ℕ, suc}
+use mathlib.Core.Path.{◌≡◌, refl}
+use mathlib.Core.Bool.{Bool, true, false, ◌&&◌}
+use mathlib.Core.List.{List, ◌∷◌}
 use native.Mathlib.Omega.{arith}
 use Rattle.terms.specs.Lists.{some_of}
 use Rattle.rules.specs.Templates.{Policy}

@@ -1,7 +1,7 @@
 -- What holds of a fresh token and is kept by every done command holds of every reachable state. A refused command is no case:
 -- it leaves the state. Rests on Done.
 use Prim.Native.Nat.{ℕ, zero, suc}
-use mathlib.Core.Path.{◌≡◌, refl, sym, ap, subst}
+use mathlib.Core.Path.{◌≡◌, refl, ap, subst}
 use mathlib.Core.Bool.{Bool}
 use mathlib.Core.List.{List}
 use Rattle.rules.specs.Templates.{Policy}

@@ -1,8 +1,8 @@
 -- "Keys number from 0 in order of creation", and each key's term comes into being with it: so the keys of a table stand there in
 -- the order of their numbers. Rests on SoundKept.
-use Prim.Native.Nat.{ℕ, ◌<◌, ◌≤◌}
+use Prim.Native.Nat.{ℕ, ◌<◌}
 use native.Mathlib.Omega.{arith}
-use mathlib.Core.Path.{◌≡◌, sym, subst}
+use mathlib.Core.Path.{◌≡◌}
 use mathlib.Core.Logic.{◌⊎◌, inl, inr, ⊎_elim}
 use mathlib.Core.Bool.{true, false}
 use mathlib.Core.List.{[], ◌∷◌, ◌++◌}

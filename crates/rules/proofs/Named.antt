@@ -1,24 +1,23 @@
 -- What a done command names: its handles are live, its terms are there and held, and the flags, the kinds and the templates are
 -- as its row in document 01's table asks. One record a row, each made from Done. Rests on Done.
-use Prim.Native.Nat.{ℕ, zero, suc, ◌<◌}
+use Prim.Native.Nat.{ℕ, zero, suc}
 use mathlib.Core.Path.{◌≡◌, refl, sym, ap, subst, ◌∙◌}
 use mathlib.Core.Bool.{Bool, true, false, not, ◌&&◌, ◌||◌, cond, true≢false, false≢true}
 use mathlib.Core.List.Memᴰ
 use mathlib.Core.List.{List, [], ◌∷◌}
 use mathlib.Core.Option.{Option, some}
 use native.Mathlib.Omega.{arith}
-use lib.Dec.{eqb, ltb}
-use lib.ListN.{get_elem?, get_or, length}
+use lib.ListN.{get_elem?, get_or}
 use borrow.Author.Tests.{eqb-true, ltb-true, not-false}
 use Rattle.terms.specs.Lists.{◌∈◌, some_of}
-use Rattle.terms.specs.Terms.{Term, Table, item, key, seal}
+use Rattle.terms.specs.Terms.{Term, item, key, seal}
 use Rattle.terms.proofs.Lists.{at_in, below_at, at_get_d}
-use Rattle.rules.specs.Flags.{Flag, W, U, E, D, X, N, T, has, holds_128}
+use Rattle.rules.specs.Flags.{Flag, W, U, E, D, X, N, T, has}
 use Rattle.rules.specs.Templates.{Policy, by-generate, by-unwrap, templates, grants}
-use Rattle.rules.specs.Commands.{Command, GENERATE, WRAP, UNWRAP, ENCRYPT, DECRYPT, CORRUPT, DESTROY, SEAL, body}
+use Rattle.rules.specs.Commands.{GENERATE, WRAP, UNWRAP, ENCRYPT, DECRYPT, CORRUPT, DESTROY, SEAL, body}
 use Rattle.rules.specs.State.{Now, Slot, dead, live, slot, is_live, key_of_slot, flags_of, is_term, term_at, is_key, key_number}
 use Rattle.rules.specs.State.{payload, all_live}
-use Rattle.rules.specs.Refusals.{bad_flags, not_live, no_term, not_held, asks_for, not_granted, needs_handle, needs, missing}
+use Rattle.rules.specs.Refusals.{not_live, no_term, not_held, asks_for, not_granted, needs_handle, needs, missing}
 use Rattle.rules.specs.Refusals.{◌on◌, sealed_under, wrong_kind}
 use Rattle.rules.proofs.Done.{Done}
 

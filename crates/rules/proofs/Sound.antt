@@ -4,13 +4,13 @@ use Prim.Native.Nat.{ℕ, ◌<◌}
 use mathlib.Core.Path.{◌≡◌}
 use mathlib.Core.Logic.{◌⊎◌}
 use mathlib.Core.List.{List}
-use mathlib.Core.Option.{Option, some}
+use mathlib.Core.Option.{some}
 use lib.ListN.{get_elem?, length}
 use Rattle.terms.specs.Lists.{◌∈◌}
 use Rattle.terms.specs.Terms.{Term, Table, item, key, seal}
 use Rattle.terms.specs.Compromise.{Link, ◌under◌}
 use Rattle.terms.proofs.Covers.{DataInside}
-use Rattle.rules.specs.State.{State, Slot, live, Origin, own, generated, Birth, ◌born◌, most_handles, new_key}
+use Rattle.rules.specs.State.{State, Slot, live, Origin, own, generated, Birth, ◌born◌, most_handles}
 
 -- m has a number below i
 pub record Earlier (table : Table) (i : ℕ) (m : Term) : Type 0 where

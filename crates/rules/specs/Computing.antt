@@ -1,7 +1,7 @@
 -- How a run is computed: the judge by following, the run step by step, the known list by asking of each key in turn. That
 -- this is the run of Runs and the list of Known is proved (proofs/Computed.antt, proofs/KnownLists.antt); a reader who
 -- believes those two files need not believe this one. Assumes nothing.
-use Rattle.std.specs.Prelude.{ℕ, zero, suc, Bool, true, false, cond, List, [], ◌∷◌, ◌++◌, length}
+use Rattle.std.specs.Prelude.{ℕ, zero, suc, Bool, false, cond, List, [], ◌∷◌, ◌++◌}
 use Rattle.std.proofs.Math.Option.{Option, none, some}
 use Rattle.std.proofs.Math.ListN.{get_elem?}
 use Rattle.terms.specs.Terms.{Term}
@@ -9,7 +9,7 @@ use Rattle.terms.specs.Lists.{is_in}
 use Rattle.terms.specs.Following.{reached, held_by_following}
 use Rattle.rules.specs.Templates.{Policy}
 use Rattle.rules.specs.Commands.{Command}
-use Rattle.rules.specs.State.{State, fresh, new_key}
+use Rattle.rules.specs.State.{State, new_key}
 use Rattle.rules.specs.Runs.{Answer, Outcome, step}
 
 unfoldable pub judged : State → Option Term → Bool

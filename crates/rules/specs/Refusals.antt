@@ -1,7 +1,7 @@
 -- Document 01, "What is answered": for each number from 2 to 11, the test under which it is answered, in that order. "If
 -- several of 1 to 11 apply to a command, the smallest is answered", so a test may take for granted what an earlier one asked:
 -- "a test that needs a live handle or an existing term is not asked where 3 or 4 applies". Assumes nothing.
-use Rattle.std.specs.Prelude.{ℕ, Bool, true, false, not, ◌&&◌, ◌||◌, cond, List, [], ◌∷◌, eqb}
+use Rattle.std.specs.Prelude.{ℕ, Bool, true, false, not, ◌&&◌, cond, List, [], ◌∷◌, eqb}
 use Rattle.terms.specs.Lists.{some_of}
 use Rattle.terms.specs.Terms.{Term, item, key, seal, listed}
 use Rattle.rules.specs.Flags.{Flag, W, U, E, D, X, N, T, has, holds_128}

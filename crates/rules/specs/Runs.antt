@@ -1,7 +1,7 @@
 -- Document 01: a command's answer, and a run of commands from a fresh token under one policy. "A refusal has value 0, and
 -- every later command behaves as if the refused one had not been there." Assumes nothing.
 use Rattle.std.specs.Prelude.{ℕ, zero, suc, ◌≡◌, ◌↔◌, Bool, true, List, [], ◌∷◌}
-use Rattle.std.proofs.Math.Option.{Option, some}
+use Rattle.std.proofs.Math.Option.{some}
 use Rattle.std.proofs.Math.ListN.{get_elem?}
 use Rattle.terms.specs.Terms.{Term, Table, number_of}
 use Rattle.terms.specs.WorkingOut.{Held}

@@ -1,6 +1,6 @@
 -- Document 01, "Handles, keys and terms": what the token is now, and what has passed between token and caller.
 -- No rule for refusing looks at the second half, save through what is held. Assumes nothing.
-use Rattle.std.specs.Prelude.{ℕ, zero, suc, Bool, true, false, List, [], ◌∷◌, ltb, leb, length, get_or, replicate}
+use Rattle.std.specs.Prelude.{ℕ, suc, Bool, true, false, List, [], ◌∷◌, ltb, leb, length, get_or, replicate}
 use Rattle.terms.specs.Terms.{Term, Table, item, key, seal}
 use Rattle.terms.specs.Compromise.{Link}
 

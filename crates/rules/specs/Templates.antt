@@ -1,6 +1,6 @@
 -- Document 01, "Templates each policy grants": the table, each cell once.
 -- Assumes nothing.
-use Rattle.std.specs.Prelude.{ℕ, Bool, true, false, List, [], ◌∷◌, leb}
+use Rattle.std.specs.Prelude.{ℕ, Bool, List, [], ◌∷◌, leb}
 use Rattle.terms.specs.Lists.{is_in}
 
 pub data Policy : Type 0 where

@@ -4,7 +4,7 @@ use mathlib.Core.Path.{◌≡◌, refl, sym, ◌∙◌, ap, subst}
 use mathlib.Core.List.{List, [], ◌∷◌, ◌++◌}
 use native.Mathlib.Omega.{arith}
 use native.Mathlib.Numerals.{add-one}
-use lib.ListN.{length, set, length-set, length-append}
+use lib.ListN.{length, length-set, length-append}
 use Rattle.rules.specs.Templates.{Policy}
 use Rattle.rules.specs.Commands.{Command}
 use Rattle.rules.specs.State.{State, most_terms, most_handles}
@@ -25,12 +25,11 @@ use Rattle.deciding.specs.declared.Decision.{Decision}
 use Rattle.shapes.specs.Commands.{stored_command}
 use Rattle.deciding.specs.Decisions.{decided}
 use Rattle.token.specs.declared.Token.{Token}
-use Rattle.token.specs.Shows.{Shows}
 use Rattle.running.specs.Views.{view_of, Findable}
 use Rattle.running.specs.Applied.{Applicable, Applied}
 use Rattle.running.specs.Direct.{ComesFrom, Reached}
 use Rattle.reader.proofs.GoodEntries.{good_entry}
-use Rattle.running.specs.Advance.{command_of, command_in, record_put, AnsweredBy, RunAsks, RanBy, Ran}
+use Rattle.running.specs.Advance.{command_of, command_in, record_put, AnsweredBy, RunAsks, Ran}
 use Rattle.running.proofs.ShownCounts.{few_keys}
 use Rattle.running.proofs.StepShown.{findable, step_applicable, step_stepped}
 use Rattle.running.proofs.RecordsWritten.{written_next}

@@ -1,7 +1,7 @@
 -- Direct calls in a row are a run of the rules: each answer is the rules' answer, 1 where the call is none, and the token at the end
 -- shows the state at the end. Rests on Going.
-use Prim.Native.Nat.{ℕ, ◌≤◌}
-use mathlib.Core.Path.{◌≡◌, refl, sym, ap, subst}
+use Prim.Native.Nat.{ℕ}
+use mathlib.Core.Path.{◌≡◌, refl}
 use mathlib.Core.Bool.{Bool, true, false, cond}
 use mathlib.Core.List.{List, [], ◌∷◌}
 use Rattle.rules.specs.Templates.{Policy}
@@ -10,11 +10,10 @@ use Rattle.rules.specs.State.{State}
 use Rattle.rules.specs.Runs.{Answer, Run, ends, then, Reachable}
 use Rattle.sheets.specs.Sheets.{policy_number}
 use Rattle.sheets.specs.Reading.{read_command}
-use Rattle.terms.proofs.Lists.{bool_cases}
 use Rattle.token.specs.declared.Token.{Token}
 use Rattle.running.specs.declared.Called.{Called}
 use Rattle.token.specs.Shows.{Shows}
-use Rattle.running.specs.Direct.{not_a_call, Refused1, SteppedBy, CallAnswer, Answered}
+use Rattle.running.specs.Direct.{not_a_call, CallAnswer, Answered}
 use Rattle.running.proofs.Going.{reachable_next}
 
 -- a call: a command number and the bytes of a body

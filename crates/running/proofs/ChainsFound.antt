@@ -1,6 +1,6 @@
 -- The walk through a bucket's chain for a code: what holds where it begins, at each link, where it ends, and that each link leads
 -- to a smaller number. Rests on Views (Findable, equal_in) and on ChainsLast.
-use Prim.Native.Nat.{ℕ, zero, suc, ◌-◌, ◌%◌, ◌≤◌, ◌<◌}
+use Prim.Native.Nat.{ℕ, zero, suc, ◌-◌, ◌≤◌, ◌<◌}
 use native.Mathlib.Omega.{arith}
 use mathlib.Core.Path.{◌≡◌, refl, sym, ap, ◌∙◌}
 use mathlib.Core.Bool.{Bool, true, cond}
@@ -11,7 +11,6 @@ use lib.Dec.{eqb, ltb}
 use lib.ListN.{get_or}
 use Rattle.rules.specs.State.{most_terms}
 use Rattle.terms.proofs.Lists.{bool_cases}
-use Rattle.deciding.specs.declared.Equal.{Equal}
 use Rattle.deciding.specs.declared.Equal.TheVariants.{At, New}
 use Rattle.token.specs.Chains.{in_chain, last, next_in}
 use Rattle.token.specs.Shows.{bucket, bucket_chain}

@@ -1,8 +1,7 @@
 -- What a done command changes in the token and which value it answers, said of the state that the token shows: what the deciding
 -- functions have to come to (Decided), and what then has to be shown (Changed). Rests on the definitions alone.
 use Prim.Native.Nat.{ℕ}
-use mathlib.Core.Bool.{Bool, true, false, not, ◌&&◌, cond}
-use lib.ListN.{length}
+use mathlib.Core.Bool.{Bool, false, not, ◌&&◌, cond}
 use Rattle.terms.specs.Terms.{Term, key, seal, listed, number_of}
 use Rattle.terms.specs.Following.{held_by_following}
 use Rattle.rules.specs.Commands.{Command, GENERATE, WRAP, UNWRAP, ENCRYPT, DECRYPT, CORRUPT, DESTROY, OWN_KEY, OWN_DATA, SEAL}

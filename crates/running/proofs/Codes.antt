@@ -14,7 +14,6 @@ use Rattle.shapes.specs.declared.TermNo.{TermNo}
 use Rattle.shapes.specs.declared.Entry.{Entry}
 use Rattle.shapes.specs.declared.Term.{Term as Kind}
 use Rattle.shapes.specs.declared.Term.TheVariants.{Data, Key, Seal}
-use Rattle.deciding.specs.declared.Equal.{Equal}
 use Rattle.deciding.specs.declared.Equal.TheVariants.{At, New}
 use Rattle.token.specs.Chains.{last}
 use Rattle.token.specs.Shows.{seal_code, code_of}

@@ -4,14 +4,14 @@ use Prim.Native.Nat.{ℕ, ◌≤◌}
 use mathlib.Core.Path.{◌≡◌, refl, sym, ap, subst, ◌∙◌}
 use native.Mathlib.Omega.{arith}
 use mathlib.Core.Logic.Iff
-use mathlib.Core.Logic.{◌↔◌, ◌⊎◌, ⊎_elim}
+use mathlib.Core.Logic.{◌↔◌, ⊎_elim}
 use mathlib.Core.Bool.{Bool, true, false}
 use mathlib.Core.List.{List, []}
 use Rattle.terms.specs.Lists.{◌∈◌}
 use Rattle.terms.specs.Terms.{key}
 use Rattle.rules.specs.Templates.{Policy, stp, stp+}
 use Rattle.rules.specs.State.{State, live, fresh}
-use Rattle.rules.specs.Runs.{Answer, Step, Run, ends, Reachable}
+use Rattle.rules.specs.Runs.{Answer, ends, Reachable}
 use Rattle.rules.specs.Known.{Known, IsCompromised, KnownList}
 use Rattle.rules.proofs.Steps.{step_unique, answer_in_table, refused_leaves}
 use Rattle.rules.proofs.SoundKept.{sound}
@@ -23,7 +23,7 @@ use Rattle.token.specs.declared.Token.{Token}
 use Rattle.running.specs.declared.Called.{Called}
 use Rattle.token.specs.Shows.{Shows}
 use Rattle.token.specs.Known.{blank_token, marked_keys}
-use Rattle.running.specs.Direct.{not_a_call, ComesFrom, Reached, Refused1, SteppedBy, CallAnswer, Answered}
+use Rattle.running.specs.Direct.{not_a_call, ComesFrom, Reached, CallAnswer, Answered}
 use Rattle.token.proofs.Shown.{shows_unique, blank_shows}
 use Rattle.running.proofs.CallsRun.{Direct, Calls, CallsRun, calls_run, commands_of}
 use Rattle.token.proofs.KnownShown.{known_shown}

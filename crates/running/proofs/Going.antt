@@ -1,20 +1,19 @@
 -- A fresh token comes from a fresh one by no calls, and a token that comes from one by earlier calls does so after the next call too:
 -- what a program that makes one call after the other has to know. Rests on Shown and on rules' Prefixes.
-use Prim.Native.Nat.{ℕ, ◌≤◌}
-use mathlib.Core.Path.{◌≡◌, refl, sym, subst}
+use Prim.Native.Nat.{ℕ}
+use mathlib.Core.Path.{refl, sym, subst}
 use mathlib.Core.Bool.{Bool, true, false}
 use mathlib.Core.List.{List, [], ◌∷◌, ◌++◌}
 use Rattle.rules.specs.Templates.{Policy}
 use Rattle.rules.specs.Commands.{Command}
 use Rattle.rules.specs.State.{State, fresh}
-use Rattle.rules.specs.Runs.{Answer, Step, Run, ends, then, Reachable}
+use Rattle.rules.specs.Runs.{Answer, Step, ends, then, Reachable}
 use Rattle.rules.proofs.Prefixes.{run_append}
 use Rattle.sheets.specs.Sheets.{policy_number}
 use Rattle.token.specs.declared.Token.{Token}
 use Rattle.running.specs.declared.Called.{Called}
-use Rattle.token.specs.Shows.{Shows}
 use Rattle.token.specs.Known.{blank_token}
-use Rattle.running.specs.Direct.{not_a_call, ComesFrom, Reached, Refused1, SteppedBy, CallAnswer, Answered}
+use Rattle.running.specs.Direct.{not_a_call, ComesFrom, Reached, CallAnswer, Answered}
 use Rattle.token.proofs.Shown.{blank_shows}
 
 -- a fresh token comes from a fresh one, by no calls, under each policy

@@ -2,7 +2,7 @@
 -- What this comes to once nothing is left. Rests on LeakSeals.antt and LeakCount.antt.
 use Prim.Native.Nat.{ℕ, ◌+◌, ◌≤◌, ◌<◌}
 use mathlib.Core.Path.{◌≡◌, sym, ◌∙◌}
-use mathlib.Core.Bool.{true, false, true≢false}
+use mathlib.Core.Bool.{true, true≢false}
 use mathlib.Core.List.{List}
 use mathlib.Core.Logic.{◌⊎◌}
 use native.Mathlib.Omega.{arith}

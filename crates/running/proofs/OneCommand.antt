@@ -1,7 +1,7 @@
 -- The sheet of one command: where a policy, a number and a body make a call, the ten bytes cut at the body's end are the sheet of the
 -- command that they state. So it has no fault, its count is 1, and that command is read from it. Rests on sheets' Bodies, Sizes and
 -- Good.
-use Prim.Native.Nat.{ℕ, zero, suc, ◌+◌, ◌≤◌, ◌<◌}
+use Prim.Native.Nat.{ℕ, zero, suc, ◌+◌, ◌≤◌}
 use native.Mathlib.Omega.{arith}
 use mathlib.Core.Path.{◌≡◌, refl, sym, ap, subst, ◌∙◌}
 use mathlib.Core.Bool.{true, false}

@@ -1,13 +1,12 @@
 -- A good sheet run from a fresh token: what the run asks, and what it leaves; and that two results of running one sheet are equal. Rests
 -- on Advancing, Going and Shown, and on the reader's and the sheets' laws.
-use Prim.Native.Nat.{ℕ, ◌*◌, ◌≤◌}
+use Prim.Native.Nat.{ℕ}
 use mathlib.Core.Path.{◌≡◌, refl, sym, ◌∙◌, ap, subst}
 use mathlib.Core.List.{List}
 use mathlib.Core.Option.{Option, none, some}
 use native.Mathlib.Omega.{arith}
 use lib.ListN.{length}
-use Rattle.rules.specs.Templates.{Policy}
-use Rattle.rules.specs.State.{State, fresh}
+use Rattle.rules.specs.State.{fresh}
 use Rattle.rules.proofs.Steps.{run_unique}
 use Rattle.sheets.specs.Bytes.{Bytes, byte_at}
 use Rattle.sheets.specs.Sheets.{policy_number}
@@ -24,8 +23,8 @@ use Rattle.token.specs.declared.Token.{Token}
 use Rattle.running.specs.declared.Ran.{Ran as Result}
 use Rattle.token.specs.Known.{blank_token}
 use Rattle.running.specs.Direct.{ComesFrom, Reached}
-use Rattle.running.specs.Advance.{RunAsks, RanBy, Ran}
-use Rattle.running.specs.Run.{SheetRan, NotRun, RunOrNot, RanSheet}
+use Rattle.running.specs.Advance.{RunAsks, Ran}
+use Rattle.running.specs.Run.{RunOrNot, RanSheet}
 use Rattle.token.proofs.Shown.{shows_unique}
 use Rattle.running.proofs.Going.{comes_fresh, reached_fresh}
 

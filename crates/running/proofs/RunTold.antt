@@ -1,8 +1,8 @@
 -- What running a sheet tells, by what the sheet was found to be: of a good one its policy and commands, what was said, the state at
 -- the end and the known list. Rests on KnownShown, and on the reader's and the sheets' laws.
-use Prim.Native.Nat.{ℕ, ◌*◌, ◌≤◌}
+use Prim.Native.Nat.{ℕ, ◌≤◌}
 use native.Mathlib.Omega.{arith}
-use mathlib.Core.Path.{◌≡◌, refl, sym, ap, ◌∙◌, subst}
+use mathlib.Core.Path.{◌≡◌, sym, ap, ◌∙◌, subst}
 use mathlib.Core.List.{List}
 use mathlib.Core.Option.{Option, none, some}
 use lib.ListN.{length}

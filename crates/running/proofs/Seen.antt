@@ -27,7 +27,7 @@ use Rattle.token.specs.Shows.{entry_for, entry_of, slot_for, Shows}
 use Rattle.shapes.specs.Entries.{is_key_kind, key_of, is_sealed_under, payload_no, is_held}
 use Rattle.deciding.specs.Decisions.{is_missing, entry_in}
 use Rattle.running.specs.Views.{entry_at, slot_at, handle_in, lookup_in}
-use Rattle.running.proofs.SeenParts.{handle_for, handle_in_lem, lookup_for, lookup_in_lem, is_there, below_there, or_item, get_d_or}
+use Rattle.running.proofs.SeenParts.{handle_for, handle_in_lem, lookup_for, lookup_in_lem, below_there, or_item, get_d_or}
 use Rattle.running.proofs.SeenParts.{seen_there, seen_entry, entry_judged, entry_is_key, entry_key, entry_under, entry_payload}
 use Rattle.running.proofs.SeenParts.{slot_term, sealed_is_there}
 

@@ -1,6 +1,6 @@
 -- What the links show is kept: where the kinds of the entries stay, where an entry is appended that is no seal, and where a seal
 -- is appended and put into its two chains. Rests on ChainsKept.
-use Prim.Native.Nat.{ℕ, suc, ◌<◌, ◌%◌}
+use Prim.Native.Nat.{ℕ, suc, ◌<◌}
 use native.Mathlib.Omega.{arith}
 use native.Mathlib.Decide.{ℕ_discrete}
 use mathlib.Core.Path.{◌≡◌, refl, sym, ap, ◌∙◌}

@@ -3,29 +3,26 @@
 use Prim.Native.Nat.{ℕ, zero, suc, ◌≤◌}
 use native.Mathlib.Omega.{arith}
 use mathlib.Core.Path.{◌≡◌, refl, sym, ap, subst, ◌∙◌}
-use mathlib.Core.Bool.{Bool, true, false}
-use mathlib.Core.Option.{Option, none, some}
+use mathlib.Core.Bool.{true, false}
+use mathlib.Core.Option.{none}
 use borrow.Author.Tests.{ltb-true, ltb-false}
 use lib.Dec.{ltb}
 use lib.ListN.{length, get_or, get_elem?, get_or-eq_default}
 use Rattle.terms.proofs.Lists.{bool_cases}
 use mathlib.Core.List.{List, [], ◌∷◌}
-use Rattle.rules.specs.Templates.{Policy, plain, stp, stp+}
+use Rattle.rules.specs.Templates.{Policy}
 use Rattle.rules.specs.Commands.{Command}
 use Rattle.rules.specs.State.{State, most_terms}
-use Rattle.rules.specs.Changes.{after, answers}
-use Rattle.rules.specs.Refusals.{refusals, first}
-use Rattle.rules.specs.Runs.{Answer, Outcome, outcome, step, number_in, Step, Reachable}
+use Rattle.rules.specs.Changes.{after}
+use Rattle.rules.specs.Runs.{outcome, step, Step, Reachable}
 use Rattle.rules.specs.Computing.{judge}
-use Rattle.rules.proofs.Done.{Done, done}
-use Rattle.rules.proofs.Sound.{Sound}
+use Rattle.rules.proofs.Done.{done}
 use Rattle.rules.proofs.SoundKept.{sound}
 use Rattle.rules.proofs.Judging.{judge_judges}
-use Rattle.sheets.specs.Sheets.{policy_number, Holdable}
+use Rattle.sheets.specs.Sheets.{Holdable}
 use Rattle.sheets.specs.Reading.{read_policy}
 use Rattle.shapes.specs.declared.Command.{Command as Stored}
 use Rattle.deciding.specs.declared.Change.{Change}
-use Rattle.deciding.specs.declared.Change.TheVariants.{Nothing}
 use Rattle.deciding.specs.declared.Decision.{Decision}
 use Rattle.deciding.specs.declared.View.{View}
 use Rattle.token.specs.declared.Token.{Token}
@@ -36,7 +33,7 @@ use Rattle.deciding.specs.Decisions.{decided}
 use Rattle.running.specs.Views.{view_of, Findable}
 use Rattle.running.specs.Applied.{Applicable, Applied}
 use Rattle.running.specs.Direct.{ComesFrom, Reached, SteppedBy}
-use Rattle.running.proofs.ChangeFor.{change_for, value_for}
+use Rattle.running.proofs.ChangeFor.{value_for}
 use Rattle.running.proofs.DecidedBy.{refusal_for, Decides, policy_read}
 use Rattle.running.proofs.Decided.{decides}
 use Rattle.running.proofs.Changed.{changed}

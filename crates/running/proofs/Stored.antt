@@ -1,13 +1,11 @@
 -- A change made by stores is the change applied. Where a change leaves the slots or the entries as they are, what was read there is
 -- stored back, and they are the same. Rests on specs/Stores.antt and specs/Applied.antt.
-use Prim.Native.Nat.{ℕ, suc, ◌+◌, ◌%◌, ◌<◌, ◌≤◌}
-use native.Mathlib.Numerals.{add-one}
-use mathlib.Core.Path.{◌≡◌, refl, sym, ◌∙◌, ap, subst}
+use Prim.Native.Nat.{ℕ, ◌<◌}
+use mathlib.Core.Path.{◌≡◌, refl, sym, ap, subst}
 use mathlib.Core.Bool.{Bool, true, false}
-use mathlib.Core.List.{List, [], ◌∷◌}
-use mathlib.Core.Logic.{⊎_elim}
+use mathlib.Core.List.{List}
 use native.Mathlib.Omega.{arith}
-use lib.ListN.{length, get_or, set}
+use lib.ListN.{get_or, set}
 use lib.Seq.{set-get_or}
 use Rattle.shapes.specs.declared.KeyNo.{KeyNo}
 use Rattle.shapes.specs.declared.TermNo.{TermNo}
@@ -15,7 +13,7 @@ use Rattle.shapes.specs.declared.Entry.{Entry}
 use Rattle.shapes.specs.declared.Slot.{Slot}
 use Rattle.deciding.specs.declared.Change.{Change}
 use Rattle.deciding.specs.declared.Change.TheVariants.{Nothing, Bind, Release, NewKey, OwnKey, OwnData, NewSeal, Know}
-use Rattle.rules.specs.State.{most_terms, most_handles}
+use Rattle.rules.specs.State.{most_terms}
 use Rattle.running.specs.declared.SlotPut.{SlotPut}
 use Rattle.running.specs.declared.EntryPut.{EntryPut}
 use Rattle.token.specs.declared.Table.{Table}
@@ -26,7 +24,7 @@ use Rattle.token.specs.Shows.{blank_entry, blank_slot}
 use Rattle.running.specs.Stores.{HandPut, SlotStored, entry_stored, Linkable, links_stored, leak_of}
 use Rattle.running.specs.declared.Leak.{Leak}
 use Rattle.running.specs.declared.Leak.TheVariants.{Of, Nothing as No}
-use Rattle.running.specs.Applied.{SlotSet, appended, linked, seal_entry, TableFollowed, LeakFollowable, SealRoom, Parts, Applied, Applicable}
+use Rattle.running.specs.Applied.{SlotSet, TableFollowed, LeakFollowable, Applied, Applicable}
 
 -- the hands and the table after the stores
 abbrev pub stored_hands : Hands → SlotPut → Hands

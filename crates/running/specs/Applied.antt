@@ -1,9 +1,8 @@
 -- How a change is made in the token's parts. Assumes nothing.
-use Rattle.std.specs.Prelude.{ℕ, zero, suc, ◌%◌, ◌<◌, ◌≡◌, Bool, true, false, List, length, get_or, set}
+use Rattle.std.specs.Prelude.{ℕ, suc, ◌<◌, ◌≡◌, Bool, true, false, length, get_or, set}
 use Rattle.rules.specs.State.{most_terms, most_handles}
 use Rattle.shapes.specs.declared.KeyNo.{KeyNo}
 use Rattle.shapes.specs.declared.TermNo.{TermNo}
-use Rattle.shapes.specs.declared.HandleNo.{HandleNo}
 use Rattle.shapes.specs.declared.Term.{Term as Kind}
 use Rattle.shapes.specs.declared.Term.TheVariants.{Data, Key, Seal}
 use Rattle.shapes.specs.declared.Entry.{Entry}

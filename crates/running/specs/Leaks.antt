@@ -7,7 +7,7 @@ use Rattle.shapes.specs.declared.Entry.{Entry}
 use Rattle.shapes.specs.declared.KeyNo.{KeyNo}
 use Rattle.shapes.specs.declared.TermNo.{TermNo}
 use Rattle.shapes.specs.declared.Term.{Term as Kind}
-use Rattle.shapes.specs.declared.Term.TheVariants.{Data, Key, Seal}
+use Rattle.shapes.specs.declared.Term.TheVariants.{Key, Seal}
 use Rattle.token.specs.Chains.{Linked}
 use Rattle.token.specs.Shows.{blank_entry, under_chain}
 

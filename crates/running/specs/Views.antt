@@ -2,7 +2,6 @@
 -- these. A number past the end of an array reads as number 0 there; nothing is asked of what it reads. Assumes nothing.
 use Rattle.std.specs.Prelude.{ℕ, zero, suc, ◌≤◌, ◌≡◌, Bool, true, false, cond, List, eqb, ltb, length, get_or}
 use Rattle.rules.specs.State.{most_terms}
-use Rattle.shapes.specs.declared.KeyNo.{KeyNo}
 use Rattle.shapes.specs.declared.TermNo.{TermNo}
 use Rattle.shapes.specs.declared.HandleNo.{HandleNo}
 use Rattle.shapes.specs.declared.Entry.{Entry}

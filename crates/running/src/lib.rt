@@ -1,5 +1,6 @@
 // Runs commands on a token: a sheet from its bytes to its records and the token at the end, and the direct call.
 #![tactic(auto)]
+
 mod advance;
 mod find;
 mod leaks;

@@ -1,6 +1,7 @@
 // The shapes that document 01 names: the three counts, a term in its entry, what a live handle stands for, a command; what an entry
 // names, and a command from its bytes. Everything above is made of these small values.
 #![tactic(auto)]
+
 pub mod entries;
 pub mod parse;
 

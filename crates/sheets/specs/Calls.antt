@@ -2,7 +2,6 @@
 -- the report length for 0, the place for 12, nothing for 13." "12 comes before 13; both write nothing"; "further bytes of the
 -- buffer stay unwritten". Assumes nothing.
 use Rattle.std.specs.Prelude.{ℕ, ◌+◌, ◌*◌, Bool, true, false, List, ◌++◌, leb, length, drop}
-use Rattle.rules.specs.Runs.{Answer}
 use Rattle.sheets.specs.Reports.{Reply, malformed, reported, report_bytes}
 
 -- the number given, and what the buffer holds afterwards

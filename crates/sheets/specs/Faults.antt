@@ -1,7 +1,7 @@
 -- Document 01, "Place of a fault": "0 if the sheet has under 3 bytes, policy above 2, n above 4,096 or a table not wholly
 -- inside; i (from 1) for entry i if its number is not 1 to 10, its offset is not where the bodies before it end, or its body
 -- passes the end; n + 1 if bytes follow the last body. The smallest place is named." Assumes nothing.
-use Rattle.std.specs.Prelude.{ℕ, zero, suc, ◌+◌, ◌*◌, Bool, true, false, not, ◌||◌, cond, List, [], ◌∷◌, ltb, eqb, length, get_or}
+use Rattle.std.specs.Prelude.{ℕ, zero, suc, ◌+◌, ◌*◌, Bool, false, not, ◌||◌, cond, List, [], ◌∷◌, ltb, eqb, length, get_or}
 use Rattle.std.proofs.Math.Option.{Option, none, some}
 use Rattle.sheets.specs.Bytes.{byte_at, two_at}
 use Rattle.sheets.specs.Sheets.{most_commands, header_length, entry_length, bodies_begin}

@@ -1,6 +1,6 @@
 -- How a sheet is read and answered by computing. That this is the sheet, and the reply, of Sheets and Reports is proved
 -- (proofs/Good.antt, proofs/Replied.antt); a reader who believes those files need not believe this one. Assumes nothing.
-use Rattle.std.specs.Prelude.{ℕ, zero, suc, ◌+◌, List, [], ◌∷◌, ◌++◌, get_or, drop}
+use Rattle.std.specs.Prelude.{ℕ, zero, suc, List, [], ◌∷◌, ◌++◌, get_or, drop}
 use Rattle.std.proofs.Math.Option.{Option, none, some}
 use Rattle.rules.specs.Templates.{Policy, plain, stp, stp+}
 use Rattle.rules.specs.Commands.{Command, GENERATE, WRAP, UNWRAP, ENCRYPT, DECRYPT, CORRUPT, DESTROY, OWN_KEY, OWN_DATA, SEAL}

@@ -2,7 +2,7 @@
 -- each; n records of three bytes (answer, two-byte value); then the m known keys' numbers, two bytes each, ascending. It needs
 -- 4 + 3n + 2m bytes." "12 runs nothing." Assumes nothing.
 use Rattle.std.specs.Prelude.{ℕ, zero, suc, ◌≡◌, List, [], ◌∷◌, ◌++◌, length}
-use Rattle.std.proofs.Math.Option.{Option, some}
+use Rattle.std.proofs.Math.Option.{some}
 use Rattle.rules.specs.Templates.{Policy}
 use Rattle.rules.specs.Commands.{Command}
 use Rattle.rules.specs.State.{State, fresh}

@@ -1,6 +1,6 @@
 -- Words about lists that every other definition uses: x is in the list, a test holds of something in it, and whether a number is in it.
 -- Assumes nothing.
-use Rattle.std.specs.Prelude.{ℕ, Bool, true, false, ◌||◌, eqb}
+use Rattle.std.specs.Prelude.{ℕ, Bool, false, ◌||◌, eqb}
 use mathlib.Core.List.{List, [], ◌∷◌, Memᴰ}
 
 infix 40 ◌∈◌

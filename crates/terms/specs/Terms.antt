@@ -2,7 +2,7 @@
 -- A data item is named by its order of creation and a key by its number; a term's own number is its place in a token's table,
 -- and stands in no term. No cipher is run: a seal is a symbol, the same for wrapping and for encryption.
 -- Assumes nothing.
-use Rattle.std.specs.Prelude.{ℕ, suc, Bool, true, false, ◌&&◌, cond, List, [], ◌∷◌, ◌++◌, eqb}
+use Rattle.std.specs.Prelude.{ℕ, suc, Bool, false, ◌&&◌, cond, List, [], ◌∷◌, ◌++◌, eqb}
 use Rattle.terms.specs.Lists.{some_of}
 
 pub data Term : Type 0 where

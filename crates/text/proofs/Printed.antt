@@ -1,6 +1,6 @@
 -- The text that is computed from what a run leaves behind is the text of that run, and every sheet has one text. Rests on
 -- PrintedLines and PrintedKeys, and on the sheets' and the rules' uniqueness.
-use Prim.Native.Nat.{ℕ, ◌+◌}
+use Prim.Native.Nat.{ℕ}
 use native.Mathlib.Omega.{arith}
 use mathlib.Core.Path.{◌≡◌, sym, ap, ◌∙◌, subst, subst₂}
 use mathlib.Core.List.{List, ◌++◌}

@@ -1,5 +1,6 @@
 // What the program `rounds` prints, written into a buffer: the report of a run, or the one line of a malformed sheet.
 #![tactic(auto)]
+
 mod append;
 mod counting;
 mod keys;

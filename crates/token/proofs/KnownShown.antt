@@ -2,9 +2,8 @@
 -- once, ascending, and no other. Rests on rules' KeyOrder and Judging.
 use Prim.Native.Nat.{ℕ, zero, suc, ◌<◌, ◌≤◌}
 use native.Mathlib.Omega.{arith}
-use mathlib.Core.Path.{◌≡◌, refl, sym, ap, subst, ◌∙◌}
-use mathlib.Core.Logic.{⊎_elim}
-use mathlib.Core.Bool.{Bool, true, false, ◌&&◌, cond, true≢false, false≢true}
+use mathlib.Core.Path.{◌≡◌, refl, sym, ap, ◌∙◌}
+use mathlib.Core.Bool.{true, false, ◌&&◌, false≢true}
 use mathlib.Core.List.Memᴰ
 use mathlib.Core.List.{List, [], ◌∷◌}
 use mathlib.Core.Option.{Option, none, some}
@@ -13,11 +12,11 @@ use lib.ListN.{length, get_or, get_elem?, get_or-eq_default}
 use borrow.Author.Tests.{ltb-true, ltb-false}
 use Rattle.terms.specs.Lists.{◌∈◌}
 use Rattle.terms.specs.Terms.{Term, item, key, seal}
-use Rattle.terms.proofs.Lists.{bool_cases, at_in, in_at, at_below}
+use Rattle.terms.proofs.Lists.{bool_cases, at_in, in_at}
 use Rattle.terms.specs.Following.{held_by_following}
 use Rattle.terms.proofs.Decision.{following_decides}
-use Rattle.rules.specs.State.{State, most_terms, generated, own}
-use Rattle.rules.specs.Known.{KnownList, Ascending, Known}
+use Rattle.rules.specs.State.{State, most_terms}
+use Rattle.rules.specs.Known.{KnownList, Ascending}
 use Rattle.rules.specs.Known.{Ascending}
 use Rattle.rules.proofs.Sound.{Sound}
 use Rattle.rules.proofs.Judging.{covers, known_in_table}

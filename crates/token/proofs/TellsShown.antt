@@ -3,14 +3,11 @@
 use Prim.Native.Nat.{ℕ, zero, suc, ◌<◌, ◌≤◌}
 use native.Mathlib.Omega.{arith}
 use mathlib.Core.Path.{◌≡◌, refl, sym, ap, subst, ◌∙◌}
-use mathlib.Core.Bool.{Bool, true, false, cond, true≢false, false≢true}
+use mathlib.Core.Bool.{Bool, true, false, false≢true}
 use mathlib.Core.List.{List, [], ◌∷◌}
-use lib.Dec.{eqb}
 use lib.ListN.{length, get_or, get_elem?}
 use borrow.Author.Tests.{eqb-true, eq-eqb}
 use Rattle.shapes.specs.Entries.{is_own_entry}
-use Rattle.terms.specs.Lists.{◌∈◌}
-use Rattle.terms.specs.Terms.{key}
 use Rattle.terms.proofs.Lists.{bool_cases, in_at, at_in}
 use Rattle.rules.specs.State.{State, count_live}
 use Rattle.rules.proofs.Sound.{Sound}
@@ -18,7 +15,6 @@ use Rattle.shapes.specs.declared.Entry.{Entry}
 use Rattle.shapes.specs.declared.Term.{Term as Kind}
 use Rattle.shapes.specs.declared.Term.TheVariants.{Data, Key, Seal}
 use Rattle.token.specs.declared.Token.{Token}
-use Rattle.token.specs.declared.Origin.{Origin}
 use Rattle.token.specs.declared.Origin.TheVariants.{NoKey}
 use Rattle.handles.specs.Live.{count_in}
 use Rattle.token.specs.Shows.{Shows, blank_entry, is_own, entry_of, entry_for}

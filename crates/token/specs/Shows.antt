@@ -16,7 +16,7 @@ use Rattle.token.specs.declared.Links.{Links}
 use Rattle.token.specs.declared.Hands.{Hands}
 use Rattle.token.specs.declared.Token.{Token}
 pub use Rattle.shapes.specs.Entries.{blank_entry, blank_slot, entry}
-use Rattle.token.specs.Chains.{Linked, places}
+use Rattle.token.specs.Chains.{Linked}
 use Rattle.handles.specs.Live.{Words, bit}
 
 unfoldable pub is_own : Option Origin → Bool

@@ -1,6 +1,7 @@
 // The symbolic token: its parts, a fresh one, and what a token tells. What each part shows of document 01's state is said in
 // specs/Shows.antt.
 #![tactic(auto)]
+
 pub mod known;
 
 ghost use Rattle.std.specs.Prelude.{◌≡◌};

@@ -32,7 +32,7 @@ use Rattle.rules.proofs.NoOwnHandle.{no_own_handle}
 use Rattle.sheets.specs.Bytes.{Bytes, byte_at}
 use Rattle.sheets.specs.Sheets.{Sheet}
 use Rattle.sheets.specs.Faults.{count, first_fault}
-use Rattle.sheets.specs.Reports.{Reply, malformed, reported, Replies, is_malformed, has_run, report_bytes}
+use Rattle.sheets.specs.Reports.{Reply, reported, Replies, is_malformed, has_run, report_bytes}
 use Rattle.sheets.specs.Calls.{Called, answer_number, over, call}
 use Rattle.sheets.specs.Reading.{reply, read_policy, read_commands}
 use Rattle.sheets.proofs.Places.{FirstFault, first_fault_some}

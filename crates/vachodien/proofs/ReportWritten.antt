@@ -1,15 +1,13 @@
 -- The report in a buffer, part behind part: the counts, the records, the known keys. Rests on the writer's Over.
-use Prim.Native.Nat.{ℕ, zero, suc, ◌+◌, ◌*◌, ◌-◌, ◌/◌, ◌%◌, ◌≤◌, ◌<◌}
+use Prim.Native.Nat.{ℕ, suc, ◌+◌, ◌*◌, ◌-◌, ◌/◌, ◌%◌, ◌≤◌, ◌<◌}
 use native.Mathlib.Omega.{arith}
-use native.Mathlib.Numerals.{add-one}
-use mathlib.Core.Path.{◌≡◌, refl, sym, ap, ◌∙◌, subst}
+use mathlib.Core.Path.{◌≡◌, refl, sym, ap, ◌∙◌}
 use mathlib.Core.Bool.{Bool, true, false, cond, ◌&&◌}
-use mathlib.Core.List.{List, [], ◌∷◌, ◌++◌, append_assoc}
+use mathlib.Core.List.{List, [], ◌∷◌, ◌++◌}
 use lib.Dec.{leb}
-use lib.ListN.{length, get_or, take, drop, set, length-append, length-drop}
+use lib.ListN.{length, get_or, take, drop, set, length-append}
 use lib.Seq.{length-take-le, get_or-take, paste}
 use borrow.Author.Tests.{le-leb, lt-leb}
-use Rattle.terms.proofs.Lists.{bool_cases}
 use Rattle.sheets.specs.Bytes.{two}
 use Rattle.sheets.specs.Reports.{keys_bytes}
 use Rattle.sheets.specs.Calls.{over}
@@ -22,7 +20,6 @@ use Rattle.writer.proofs.Over.{lent_length, over_lent, copied_next, copied_lengt
 use Rattle.token.specs.declared.Token.{Token}
 use Rattle.token.specs.declared.Listed.{Listed}
 use Rattle.token.specs.Known.{marked_keys, ListedInto, written_as}
-use Rattle.vachodien.specs.declared.Reported.{Reported}
 use Rattle.vachodien.specs.declared.Reported.TheVariants.{Report, Short}
 use Rattle.vachodien.specs.Replied.{left_report, ReportedInto}
 

@@ -1,26 +1,23 @@
 -- The reply to a sheet, of what a run leaves of it: a malformed sheet is answered with its place, a good one with the report of its
 -- run. Rests on the token's KnownShown and on the sheets' Calls.
-use Prim.Native.Nat.{ℕ, ◌+◌, ◌*◌, ◌≤◌, ◌<◌}
+use Prim.Native.Nat.{ℕ, ◌+◌, ◌*◌}
 use native.Mathlib.Omega.{arith}
-use mathlib.Core.Path.{◌≡◌, refl, sym, ap, ◌∙◌, subst}
+use mathlib.Core.Path.{◌≡◌, refl, sym, ap, ◌∙◌}
 use mathlib.Core.Bool.{Bool, true, false}
-use mathlib.Core.List.{List, [], ◌∷◌, ◌++◌}
+use mathlib.Core.List.{List, ◌++◌}
 use lib.Dec.{leb}
 use lib.ListN.{length, take}
 use Rattle.sheets.specs.Bytes.{two}
-use Rattle.sheets.specs.Reports.{Reply, malformed, reported, Replies, is_malformed, has_run as ran-to-its-end, records_bytes, keys_bytes, report_bytes}
-use Rattle.sheets.specs.Calls.{Called, answer_number, over, report_into, call}
+use Rattle.sheets.specs.Reports.{malformed, reported, is_malformed, has_run as ran-to-its-end, records_bytes, keys_bytes, report_bytes}
+use Rattle.sheets.specs.Calls.{answer_number, over, report_into, call}
 use Rattle.sheets.proofs.Reports.{records_length}
 use Rattle.sheets.proofs.Calls.{over_front}
-use Rattle.reader.specs.declared.Checked.{Checked}
 use Rattle.reader.specs.declared.Checked.TheVariants.{Good, Malformed}
 use Rattle.running.specs.declared.Ran.{Ran}
-use Rattle.token.specs.declared.Token.{Token}
 use Rattle.token.specs.Known.{marked_keys}
 use Rattle.running.specs.Run.{RanSheet}
 use Rattle.running.proofs.RunTold.{fault_told, has_run, answers_counted, known_told}
 use Rattle.vachodien.specs.declared.Reported.{Reported}
-use Rattle.vachodien.specs.declared.Reported.TheVariants.{Report, Short}
 use Rattle.vachodien.specs.Replied.{CalledOn, left_report, reported_as, put_as, reported_number, ReportedInto}
 
 -- the number for what was reported, and what the buffer holds

@@ -1,12 +1,12 @@
 -- What the calls from C promise, for any buffers. Document 01: "The C call takes the sheet and the buffer and gives one number: the
 -- answer times 65,536, plus the report length for 0, the place for 12, nothing for 13." Assumes nothing.
-use Rattle.std.specs.Prelude.{ℕ, ◌+◌, ◌*◌, ◌≡◌, Bool, true, false, List, ◌++◌, leb, length, take}
+use Rattle.std.specs.Prelude.{ℕ, ◌*◌, ◌≡◌, Bool, true, false, List, ◌++◌, leb, length, take}
 use Rattle.sheets.specs.Bytes.{two}
 use Rattle.sheets.specs.Reports.{Reply, Replies, keys_bytes}
-use Rattle.sheets.specs.Calls.{Called, answer_number, call, over}
+use Rattle.sheets.specs.Calls.{answer_number, call, over}
 use Rattle.token.specs.declared.Token.{Token}
 use Rattle.token.specs.Known.{marked_keys}
-use Rattle.writer.specs.Writer.{Wrote, wrote, written_number}
+use Rattle.writer.specs.Writer.{wrote, written_number}
 use Rattle.vachodien.specs.declared.Reported.{Reported}
 use Rattle.vachodien.specs.declared.Reported.TheVariants.{Report, Short}
 

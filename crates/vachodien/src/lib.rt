@@ -1,5 +1,6 @@
 // The library as a host calls it (vachodien_c exports each function for C): it takes any buffers, and gives one number back.
 #![tactic(auto)]
+
 ghost use Rattle.std.specs.Prelude.{◌≡◌};
 ghost use Rattle.reader.specs.Reader.{checked, checked_number};
 ghost use Rattle.writer.specs.Writer.{wrote};

@@ -1,5 +1,6 @@
 // The library as a host in C links it: each call of `vachodien` under its own name, with what it promises.
 #![tactic(auto)]
+
 ghost use Rattle.std.specs.Prelude.{◌≡◌};
 ghost use Rattle.reader.specs.Reader.{checked, checked_number};
 ghost use Rattle.vachodien.specs.Replied.{CalledOn, SheetWritten};

@@ -2,6 +2,7 @@
 // the exercise's letter, then the sheet's text. J has two sheets, and its letter stands before each. The stored output is worked out by
 // hand from the document. A sheet's bytes stand on three lines: policy and count, the entries, the bodies. g = GENERATE.
 #![tactic(auto)]
+
 use std::io;
 use std::io::Write;
 use text::text_of;

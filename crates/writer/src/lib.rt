@@ -1,5 +1,6 @@
 // Writes a sheet into a lent buffer. A refusal writes nothing, and no byte past the sheet is written.
 #![tactic(auto)]
+
 ghost use Rattle.std.specs.Prelude.{◌≡◌, ◌∷◌, ◌*◌, ◌<◌, ◌≤◌, length};
 ghost use Rattle.sheets.specs.Bytes.{two};
 ghost use Rattle.sheets.specs.Sheets.{entry_length, bodies_begin, contents, bodies};

@@ -1,6 +1,5 @@
 -- `capacity::begin` meets its contract: a fresh token comes from a fresh one by no calls. Rests on running's Going.
 use mathlib.Core.Path.{sym, subst}
-use borrow.Author.Rules.{rules}
 use Rattle.rules.specs.Templates.{plain}
 use Rattle.sheets.specs.Sheets.{policy_number}
 use Rattle.token.specs.declared.Token.{Token}

@@ -1,5 +1,4 @@
 -- `begin` meets its contract: a fresh token comes from a fresh one by no calls, whatever the policy of the next. Rests on Begun.
-use borrow.Author.Rules.{rules}
 use Rattle.direct.proofs.Begun.{reached_begun}
 use Rattle.direct.proofs.begin.Goals as goal
 

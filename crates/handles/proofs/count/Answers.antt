@@ -1,7 +1,5 @@
 -- `live::count` counts the live handles: the ones of the four words. Rests on the laws of the words.
-use native.Mathlib.Omega.{arith}
-use borrow.Author.Rules.{rules}
-use Rattle.handles.proofs.LiveWordsBits.{few_ones, count_ones}
+use Rattle.handles.proofs.LiveWordsBits.{count_ones}
 use Rattle.handles.proofs.LiveWordsCode.{array_words}
 use Rattle.handles.proofs.count.Goals as goal
 

@@ -1,10 +1,7 @@
 -- `live::free` finds the lowest number not live. The loop's invariant: every handle below the word looked at is live.
 -- Rests on the laws of the words.
 use Prim.Native.Nat.{◌-◌, ◌≤◌}
-use native.Mathlib.Nat.{not-suc-le-zero}
-use native.Mathlib.Omega.{arith}
-use borrow.Author.Rules.{rules}
-use Rattle.handles.proofs.LiveWordsCode.{array_words, LiveBelow, free_found, word_full, none_free}
+use Rattle.handles.proofs.LiveWordsCode.{LiveBelow}
 use Rattle.handles.proofs.free.Given as goal
 
 abbrev pub invariant-loop-word : goal.invariant-loop-word

@@ -2,7 +2,6 @@
 use mathlib.Core.Path.{◌∙◌, ap, sym}
 use Rattle.reader.specs.Reader.{read_as}
 use Rattle.reader.proofs.Tests.{passed, failed, inside, no_entry, the_entry}
-use borrow.Author.Rules.{rules}
 use Rattle.reader.proofs.entry.Goals as goal
 
 pub returns-then-not-has_body : goal.returns-then-not-has_body

@@ -2,8 +2,7 @@
 -- answer and the value. Rests on CallShown.
 use mathlib.Core.Path.{refl, sym, ◌∙◌}
 use native.Mathlib.Omega.{arith}
-use borrow.Author.Rules.{rules}
-use Rattle.running.proofs.CallShown.{none_answered, short_body, one_asked, one_answered}
+use Rattle.running.proofs.CallShown.{short_body, one_asked, one_answered}
 use Rattle.running.proofs.call.Goals as goal
 
 pub slice_bounds-advance-end : goal.slice_bounds-advance-end

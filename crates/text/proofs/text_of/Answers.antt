@@ -1,5 +1,4 @@
 -- `text_of` meets its contract: the line of a malformed sheet, or the text of what the run left (TextTold).
-use borrow.Author.Rules.{rules}
 use Rattle.text.proofs.TextTold.{run_asks, malformed_told, run_told}
 use Rattle.text.proofs.text_of.Goals as goal
 

@@ -1,6 +1,5 @@
 -- `write_commands` meets its contract: its parts are written one behind the other (WholeText).
 use Rattle.text.proofs.WholeText.{wrote_commands}
-use borrow.Author.Rules.{rules}
 use Rattle.text.proofs.write_commands.Goals as goal
 
 pub returns : goal.returns

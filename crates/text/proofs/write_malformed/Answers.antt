@@ -1,7 +1,6 @@
 -- `write_malformed` meets its contract: the words, and the place (WholeText).
 use Rattle.text.specs.Text.{word}
 use Rattle.text.proofs.WholeText.{wrote_refused}
-use borrow.Author.Rules.{rules}
 use Rattle.text.proofs.write_malformed.Goals as goal
 
 pub returns : goal.returns

@@ -1,6 +1,5 @@
 -- `write_run` meets its contract: the text begins at the buffer's front (WholeText).
 use Rattle.text.proofs.WholeText.{wrote_run}
-use borrow.Author.Rules.{rules}
 use Rattle.text.proofs.write_run.Goals as goal
 
 pub returns : goal.returns

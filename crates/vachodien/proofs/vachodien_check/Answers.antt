@@ -1,6 +1,5 @@
 -- `vachodien_check` meets its contract: the number of each case (Numbers).
-use mathlib.Core.Path.{◌≡◌, sym, ◌∙◌}
-use borrow.Author.Rules.{rules}
+use mathlib.Core.Path.{sym, ◌∙◌}
 use Rattle.vachodien.proofs.Numbers.{good_number, malformed_number}
 use Rattle.vachodien.proofs.vachodien_check.Goals as goal
 

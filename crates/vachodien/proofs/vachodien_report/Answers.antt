@@ -1,9 +1,7 @@
 -- `vachodien_report` meets its contract: a malformed sheet is answered with its place, and of a good one the report of its run is
 -- written where it fits (SheetReplied).
 use Prim.Native.Nat.{ℕ}
-use mathlib.Core.Path.{◌≡◌, sym}
 use native.Mathlib.Omega.{arith}
-use borrow.Author.Rules.{rules}
 use lib.ListN.{length-replicate}
 use Rattle.running.proofs.RunTold.{records_kept, few_commands}
 use Rattle.vachodien.proofs.Numbers.{report_number, short_number}

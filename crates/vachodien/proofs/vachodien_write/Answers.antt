@@ -1,6 +1,4 @@
 -- `vachodien_write` meets its contract: the number of each case (Numbers).
-use mathlib.Core.Path.{◌≡◌, sym, ◌∙◌}
-use borrow.Author.Rules.{rules}
 use Rattle.vachodien.proofs.Numbers.{sheet_written, unholdable_written, short_written}
 use Rattle.vachodien.proofs.vachodien_write.Goals as goal
 

@@ -1,13 +1,11 @@
 -- `writer::look_through` meets its contract: up to the command that is asked next, every one can be held and its body's length is
 -- counted (Looking). Assumes nothing.
-use Prim.Native.Nat.{◌-◌}
 use native.Mathlib.Omega.{arith}
-use borrow.Author.Rules.{rules}
 use mathlib.Core.Path.{sym, ◌∙◌}
 use Rattle.sheets.specs.Bytes.{byte_at}
 use Rattle.writer.specs.Writer.{handed_number}
 use Rattle.writer.proofs.Handed.{bytes_by_place, body_short}
-use Rattle.writer.proofs.Looking.{policy_above, too_many, Looking, looking_none, looking_fault, looking_inside}
+use Rattle.writer.proofs.Looking.{policy_above, too_many, looking_none, looking_fault, looking_inside}
 use Rattle.writer.proofs.Looking.{looking_next, looking_small, looking_all}
 use Rattle.writer.proofs.look_through.Goals as goal
 

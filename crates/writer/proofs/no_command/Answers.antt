@@ -1,9 +1,7 @@
 -- `writer::no_command` meets its contract: the record is asked for first, then its number, and then the length of its body, as the
 -- definition asks (Handed). Assumes nothing.
-use Prim.Native.Nat.{◌+◌, ◌*◌}
 use mathlib.Core.Path.{sym, ◌∙◌}
 use native.Mathlib.Omega.{arith}
-use borrow.Author.Rules.{rules}
 use borrow.Author.Tests.{not-true, not-false}
 use Rattle.sheets.specs.Bytes.{byte_at}
 use Rattle.writer.specs.Writer.{handed_number, handed_length}

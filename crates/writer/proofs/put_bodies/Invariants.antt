@@ -1,16 +1,7 @@
 -- `writer::put_bodies` meets its contract: the bodies of the commands before the next one stand over the front of the buffer, and
 -- the part of the buffer behind them is lent for the next body (Putting). Assumes nothing.
-use Prim.Native.Nat.{◌+◌, ◌-◌, ◌*◌, ◌≤◌}
-use native.Mathlib.Omega.{arith}
-use borrow.Author.Rules.{rules}
-use lib.ListN.{length, get_or}
-use Rattle.sheets.specs.Bytes.{byte_at}
-use Rattle.writer.specs.Writer.{handed_length}
-use Rattle.writer.specs.Parts.{Held}
-use Rattle.writer.proofs.Over.{lent_length}
-use Rattle.writer.proofs.Handed.{bytes_by_place, body_lent, body_inside, body_long}
-use Rattle.writer.proofs.Putting.{Copying, copying_none, copying_length, copying_small, copying_room}
-use Rattle.writer.proofs.Putting.{copying_next, copying_all}
+use Prim.Native.Nat.{◌-◌}
+use Rattle.writer.proofs.Putting.{Copying}
 use Rattle.writer.proofs.put_bodies.Given as goal
 
 abbrev pub invariant-loop-i : goal.invariant-loop-i

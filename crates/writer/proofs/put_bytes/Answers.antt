@@ -1,11 +1,5 @@
 -- `writer::put_bytes` meets its contract: the first i bytes stand over the front of the buffer (Over). Assumes nothing.
-use Prim.Native.Nat.{◌≤◌, ◌-◌}
-use mathlib.Core.Path.{◌≡◌}
-use native.Mathlib.Omega.{arith}
-use borrow.Author.Rules.{rules}
-use lib.ListN.{length}
-use lib.Seq.{paste}
-use Rattle.writer.proofs.Over.{copied_none, copied_next, copied_length, copied_all}
+use Rattle.writer.proofs.Over.{copied_all}
 use Rattle.writer.proofs.put_bytes.Goals as goal
 
 pub returns : goal.returns

@@ -1,7 +1,6 @@
 -- `writer::put_sheet` meets its contract: the header, then the table and then the bodies in the parts of the buffer behind
 -- (Whole). Assumes nothing.
 use native.Mathlib.Omega.{arith}
-use borrow.Author.Rules.{rules}
 use Rattle.writer.proofs.Over.{lent_length}
 use Rattle.writer.proofs.Whole.{all_room, header_kept, table_kept, all_written}
 use Rattle.writer.proofs.put_sheet.Goals as goal
@@ -26,7 +25,7 @@ slice_bounds-put_bodies-start c = omega (arith, all_room c.requires, table_kept 
 
 pub put_bodies-requires-clause-count_in_bounds : goal.put_bodies-requires-clause-count_in_bounds
 put_bodies-requires-clause-count_in_bounds c = rw lent_length
-          (omega (arith, all_room c.requires, table_kept c.requires c.put_three.ensures c.put_contents.ensures))
+    (omega (arith, all_room c.requires, table_kept c.requires c.put_three.ensures c.put_contents.ensures))
 
 pub returns : goal.returns
 returns c = all_written c.requires c.put_three.ensures c.put_contents.ensures c.put_bodies.ensures

@@ -1,8 +1,5 @@
 -- `writer::put_three` meets its contract: three stores at the front (Over). Assumes nothing.
 use mathlib.Core.Path.{refl}
-use native.Mathlib.Omega.{arith}
-use borrow.Author.Rules.{rules}
-use lib.ListN.{length-set}
 use Rattle.sheets.specs.Bytes.{two}
 use Rattle.writer.proofs.Over.{over_three}
 use Rattle.writer.proofs.put_three.Goals as goal

@@ -1,7 +1,6 @@
 -- `writer::write` meets its contract: all that is handed over is looked through first; only then, and only where the sheet fits,
 -- is anything written (Answers). Assumes nothing.
 use native.Mathlib.Omega.{arith}
-use borrow.Author.Rules.{rules}
 use Rattle.writer.proofs.Answers.{long-most, ready, answers-fault, answers-short, answers-sheet}
 use Rattle.writer.proofs.write.Goals as goal
 

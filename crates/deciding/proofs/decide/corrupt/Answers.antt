@@ -1,6 +1,5 @@
 -- `deciding::decide::corrupt` meets its contract: at each return the handle is dead, or live with the slot that was found.
 -- Assumes nothing.
-use borrow.Author.Rules.{rules}
 use Rattle.rules.specs.Refusals.{first}
 use Rattle.deciding.proofs.decide.corrupt.Goals as goal
 

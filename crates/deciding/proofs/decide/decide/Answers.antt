@@ -1,6 +1,5 @@
 -- `deciding::decide::decide` meets its contract: in each arm the command is that arm's, and its own function answers.
 -- Assumes nothing.
-use borrow.Author.Rules.{rules}
 use Rattle.deciding.specs.Decisions.{decided}
 use Rattle.deciding.proofs.decide.decide.Goals as goal
 

@@ -1,6 +1,5 @@
 -- `deciding::decide::destroy` meets its contract: at each return the handle is dead, or live.
 -- Assumes nothing.
-use borrow.Author.Rules.{rules}
 use Rattle.rules.specs.Refusals.{first}
 use Rattle.deciding.proofs.decide.destroy.Goals as goal
 

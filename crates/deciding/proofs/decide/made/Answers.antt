@@ -2,7 +2,6 @@
 -- Assumes nothing.
 use mathlib.Core.Bool.{and-false}
 use borrow.Author.Tests.{le-leb, lt-leb}
-use borrow.Author.Rules.{rules}
 use Rattle.rules.specs.Refusals.{first}
 use Rattle.deciding.proofs.decide.made.Goals as goal
 

@@ -1,7 +1,6 @@
 -- `deciding::decide::own_key` meets its contract: the table is full, or not.
 -- Assumes nothing.
 use borrow.Author.Tests.{le-leb, lt-leb}
-use borrow.Author.Rules.{rules}
 use Rattle.rules.specs.Refusals.{first}
 use Rattle.deciding.proofs.decide.own_key.Goals as goal
 

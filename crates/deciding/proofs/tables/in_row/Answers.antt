@@ -1,6 +1,5 @@
 -- `deciding::tables::in_row` meets its contract: the table's rule at this row (TableRules).
 -- Assumes nothing.
-use borrow.Author.Rules.{rules}
 use Rattle.deciding.proofs.TableRules.{row_grants}
 use Rattle.deciding.proofs.tables.in_row.Goals as goal
 

@@ -1,7 +1,6 @@
 -- `bodies_begin` meets its contract: it is the definition's sum, and fits. Assumes nothing.
 use mathlib.Core.Path.{refl}
 use Rattle.sheets.specs.Sheets.{bodies_begin}
-use borrow.Author.Rules.{rules}
 use Rattle.reader.proofs.table.bodies_begin.Goals as goal
 
 pub returns : goal.returns

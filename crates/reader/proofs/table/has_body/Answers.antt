@@ -1,9 +1,7 @@
 -- `has_body` meets its contract: each return stands behind the tests that decide it (Tests). Assumes nothing.
 use native.Mathlib.Omega.{arith}
 use Rattle.sheets.specs.Sheets.{bodies_begin}
-use Rattle.sheets.specs.Faults.{body_length}
 use Rattle.reader.proofs.Tests.{entry_outside, entry_in, offset_outside, room_decides}
-use borrow.Author.Rules.{rules}
 use Rattle.reader.proofs.table.has_body.Goals as goal
 
 pub overflow_add-bodies_begin : goal.overflow_add-bodies_begin

@@ -1,8 +1,6 @@
 -- `header_fault` meets its contract: each return stands behind the tests that decide it (Tests). Assumes nothing.
 use Rattle.sheets.specs.Bytes.{byte_at}
-use Rattle.sheets.specs.Sheets.{bodies_begin}
 use Rattle.reader.proofs.Tests.{header_short, policy_above, count_above, table_decides}
-use borrow.Author.Rules.{rules}
 use Rattle.reader.proofs.table.header_fault.Goals as goal
 
 pub returns-then-sheet-lt3 : goal.returns-then-sheet-lt3

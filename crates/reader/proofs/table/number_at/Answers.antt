@@ -4,7 +4,6 @@ use Rattle.sheets.specs.Bytes.{byte_at}
 use Rattle.sheets.specs.Sheets.{bodies_begin}
 use Rattle.sheets.specs.Faults.{entry_number}
 use Rattle.reader.proofs.Tests.{begin_next}
-use borrow.Author.Rules.{rules}
 use Rattle.reader.proofs.table.number_at.Goals as goal
 
 pub bounds-sheet-at : goal.bounds-sheet-at

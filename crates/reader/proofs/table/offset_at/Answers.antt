@@ -1,11 +1,9 @@
 -- `offset_at` meets its contract: the entry lies inside, and its offset is the two bytes behind its number. Assumes nothing.
 use mathlib.Core.Path.{◌∙◌}
 use native.Mathlib.Omega.{arith}
-use Rattle.sheets.specs.Bytes.{two_at}
 use Rattle.sheets.specs.Sheets.{bodies_begin}
 use Rattle.sheets.specs.Faults.{entry_offset}
 use Rattle.reader.proofs.Tests.{begin_next}
-use borrow.Author.Rules.{rules}
 use Rattle.reader.proofs.table.offset_at.Goals as goal
 
 pub overflow_add-bodies_begin : goal.overflow_add-bodies_begin

@@ -1,9 +1,6 @@
 -- `two_at` meets its contract: two bytes make a number below 65,536. Assumes nothing.
 use mathlib.Core.Path.{refl}
-use Prim.Native.Nat.{◌+◌}
-use native.Mathlib.Omega.{arith}
 use Rattle.sheets.specs.Bytes.{byte_at, two_at}
-use borrow.Author.Rules.{rules}
 use Rattle.reader.proofs.table.two_at.Goals as goal
 
 pub returns : goal.returns

@@ -1,15 +1,12 @@
 -- `advance` meets its contract: each turn of the loop looks, decides, and makes the change, and what was so far goes on (Advancing,
 -- Stored).
-use Prim.Native.Nat.{◌+◌, ◌-◌, ◌≤◌, ◌<◌}
 use mathlib.Core.Path.{refl, sym, ◌∙◌}
 use native.Mathlib.Omega.{arith}
-use Rattle.running.specs.Applied.{Applicable}
-use Rattle.running.proofs.Advancing.{AdvancedTo, advance_begins, chains_found, terms_few, keys_few, few, all_run}
-use Rattle.running.proofs.Advancing.{next_applicable, record_room, advance_on}
+use Rattle.running.proofs.Advancing.{advance_begins, chains_found, terms_few, keys_few}
+use Rattle.running.proofs.Advancing.{next_applicable, advance_on}
 use Rattle.running.proofs.ApiLook.{aim_positive, decided_of_seen}
 use Rattle.running.proofs.CallShown.{bytes_of}
 use Rattle.running.proofs.Stored.{stored_inside, linkable, stored_applied, stored_followable, stored_followed}
-use borrow.Author.Rules.{rules}
 use Rattle.running.proofs.advance.advance.Goals as goal
 
 pub loop-i-init : goal.loop-i-init
@@ -55,10 +52,10 @@ loop-i-preserved-in_default c = advance_on c.loop-i.invariant c.loop-i-test.true
 
 pub follow-table-requires : goal.follow-table-requires
 follow-table-requires c = stored_followable (record {
-      table = c.loop-i.table;
-      links = record { newest = c.loop-i.newest; older = c.loop-i.older; heads = c.loop-i.heads; chain = c.loop-i.chain; codes = c.loop-i.codes };
-      hands = record { slots = c.loop-i.slots; live = c.loop-i.live };
-    }) c.names_of-names.result.a.0 refl c.first_at-at.result refl c.slot_put-hand.result c.entry_put-put.result c.answered-change.result
+  table = c.loop-i.table;
+  links = record { newest = c.loop-i.newest; older = c.loop-i.older; heads = c.loop-i.heads; chain = c.loop-i.chain; codes = c.loop-i.codes };
+  hands = record { slots = c.loop-i.slots; live = c.loop-i.live };
+}) c.names_of-names.result.a.0 refl c.first_at-at.result refl c.slot_put-hand.result c.entry_put-put.result c.answered-change.result
     (c.slot_put-hand.ensures, c.entry_put-put.ensures) c.link.ensures (sym c.leak_of-leak.ensures ∙ c.in-Of.is)
     ((next_applicable c.loop-i.invariant c.loop-i-test.true c.command_in-command.ensures (decided_of_seen _ _ _ _ _ c.names_of-names.ensures c.first_at-at.ensures.value c.other_at.ensures.value c.aim_of-aim.ensures c.find-equal.ensures) c.answered-change.ensures))
 

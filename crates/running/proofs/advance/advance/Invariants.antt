@@ -1,15 +1,7 @@
 -- `advance` meets its contract: each turn of the loop looks, decides, and makes the change, and what was so far goes on (Advancing,
 -- Stored).
-use Prim.Native.Nat.{◌+◌, ◌-◌, ◌≤◌, ◌<◌}
-use mathlib.Core.Path.{refl, sym, ◌∙◌}
-use native.Mathlib.Omega.{arith}
-use Rattle.running.specs.Applied.{Applicable}
-use Rattle.running.proofs.Advancing.{AdvancedTo, advance_begins, chains_found, terms_few, keys_few, few, all_run}
-use Rattle.running.proofs.Advancing.{next_applicable, record_room, advance_on}
-use Rattle.running.proofs.ApiLook.{aim_positive, decided_of_seen}
-use Rattle.running.proofs.CallShown.{bytes_of}
-use Rattle.running.proofs.Stored.{stored_inside, linkable, stored_applied, stored_followable, stored_followed}
-use borrow.Author.Rules.{rules}
+use Prim.Native.Nat.{◌-◌}
+use Rattle.running.proofs.Advancing.{AdvancedTo}
 use Rattle.running.proofs.advance.advance.Given as goal
 
 abbrev pub invariant-loop-i : goal.invariant-loop-i

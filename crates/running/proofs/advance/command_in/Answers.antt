@@ -1,7 +1,6 @@
 -- `command_in` meets its contract: what was read is the entry, or none.
-use mathlib.Core.Path.{◌≡◌, sym, ◌∙◌, ap}
+use mathlib.Core.Path.{sym, ◌∙◌, ap}
 use Rattle.running.specs.Advance.{command_of, command_in}
-use borrow.Author.Rules.{rules}
 use Rattle.running.proofs.advance.command_in.Goals as goal
 
 pub returns-in_default : goal.returns-in_default

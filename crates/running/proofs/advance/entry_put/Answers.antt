@@ -1,7 +1,6 @@
 -- `entry_put` meets its contract: each kind of change stores its own entry.
 use native.Mathlib.Numerals.{add-one}
 use mathlib.Core.Path.{refl}
-use borrow.Author.Rules.{rules}
 use Rattle.running.specs.Stores.{entry_stored}
 use Rattle.running.proofs.advance.entry_put.Goals as goal
 

@@ -1,6 +1,5 @@
 -- `leak_of` meets its contract (Stored).
 use mathlib.Core.Path.{refl}
-use borrow.Author.Rules.{rules}
 use Rattle.running.specs.Stores.{leak_of}
 use Rattle.running.proofs.Stored.{leak_none}
 use Rattle.running.proofs.advance.leak_of.Goals as goal

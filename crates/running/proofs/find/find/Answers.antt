@@ -1,7 +1,6 @@
 -- `find` meets its contract: it finds the last number with the code. The loop's invariant: the walk through the bucket's chain is at
 -- this link (Walking of ChainsFound). The measure is the link, since each link leads to a smaller number. Rests on ChainsFound.
-use borrow.Author.Rules.{rules}
-use Rattle.running.proofs.ChainsFound.{Walking, walk_begins, walk_falls, walk_found, walk_goes_on, walk_ends}
+use Rattle.running.proofs.ChainsFound.{walk_begins, walk_falls, walk_found, walk_goes_on, walk_ends}
 use Rattle.running.proofs.find.find.Goals as goal
 
 pub loop-link-init : goal.loop-link-init

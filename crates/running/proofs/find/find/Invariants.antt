@@ -1,7 +1,6 @@
 -- `find` meets its contract: it finds the last number with the code. The loop's invariant: the walk through the bucket's chain is at
 -- this link (Walking of ChainsFound). The measure is the link, since each link leads to a smaller number. Rests on ChainsFound.
-use borrow.Author.Rules.{rules}
-use Rattle.running.proofs.ChainsFound.{Walking, walk_begins, walk_falls, walk_found, walk_goes_on, walk_ends}
+use Rattle.running.proofs.ChainsFound.{Walking}
 use Rattle.running.proofs.find.find.Given as goal
 
 abbrev pub invariant-loop-link : goal.invariant-loop-link

@@ -1,7 +1,6 @@
 -- `aim_of` meets its contract: the code of the seal under the caller's key, of the two handles, or of the handle and the term.
 -- Assumes nothing.
 use mathlib.Core.Path.{sym}
-use borrow.Author.Rules.{rules}
 use Rattle.running.specs.Views.{aim_in}
 use Rattle.running.proofs.look.aim_of.Goals as goal
 

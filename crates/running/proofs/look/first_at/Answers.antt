@@ -1,5 +1,4 @@
 -- `first_at` meets its contract: the term of the first handle, or the first term named, by its place. Assumes nothing.
-use borrow.Author.Rules.{rules}
 use Rattle.running.specs.Views.{first_at}
 use Rattle.running.proofs.look.first_at.Goals as goal
 

@@ -1,5 +1,4 @@
 -- `names_of` meets its contract: the numbers that each command names.
-use borrow.Author.Rules.{rules}
 use Rattle.running.specs.Views.{names_of}
 use Rattle.running.proofs.look.names_of.Goals as goal
 

@@ -1,7 +1,6 @@
 -- `other_at` meets its contract: the term of the second handle, the payload of the first term, or the second term named, each by
 -- its place. Assumes nothing.
 use mathlib.Core.Path.{sym}
-use borrow.Author.Rules.{rules}
 use Rattle.running.specs.Views.{other_at}
 use Rattle.running.proofs.look.other_at.Goals as goal
 

@@ -1,5 +1,4 @@
 -- `seen` meets its contract: each handle and each term that is named is read as live or dead, there or not, and the rest as it was read.
-use borrow.Author.Rules.{rules}
 use Rattle.running.specs.Views.{seen_in}
 use Rattle.running.proofs.look.seen.Goals as goal
 

@@ -1,5 +1,4 @@
 -- `one_command` meets its contract: its last four bytes are those of the body (OneCommand).
-use borrow.Author.Rules.{rules}
 use Rattle.running.proofs.OneCommand.{made_of}
 use Rattle.running.proofs.one.one_command.Goals as goal
 

@@ -1,7 +1,5 @@
 -- `value_in` meets its contract: two bytes make a number below 65,536.
 use mathlib.Core.Path.{refl}
-use native.Mathlib.Omega.{arith}
-use borrow.Author.Rules.{rules}
 use Rattle.sheets.specs.Bytes.{byte_at, two_at}
 use Rattle.running.proofs.one.value_in.Goals as goal
 

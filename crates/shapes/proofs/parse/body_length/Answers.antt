@@ -1,8 +1,6 @@
 -- `shapes::parse::body_length` meets its contract: the table has the known numbers (Tables), and no other number has a body (Parsing).
 -- Assumes nothing.
-use mathlib.Core.Path.{◌≡◌, sym, ◌∙◌}
-use native.Mathlib.Omega.{arith}
-use borrow.Author.Rules.{rules}
+use mathlib.Core.Path.{sym, ◌∙◌}
 use borrow.Author.Tests.{not-true, not-false}
 use Rattle.shapes.proofs.Tables.{length_is}
 use Rattle.shapes.proofs.Parsing.{known_below, unknown_empty}

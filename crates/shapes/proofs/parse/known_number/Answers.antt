@@ -1,6 +1,6 @@
 -- `shapes::parse::known_number` meets its contract: 0 is no command's number, and of the others those up to 10 are (Parsing).
 -- Assumes nothing.
-use mathlib.Core.Path.{◌≡◌, sym}
+use mathlib.Core.Path.{sym}
 use Rattle.shapes.proofs.Parsing.{zero_unknown, known_to_10}
 use Rattle.shapes.proofs.parse.known_number.Goals as goal
 

@@ -1,5 +1,4 @@
 -- `shapes::parse::not_a_call` meets its contract: its tests are those of `not-a-call`, in their order (Parsing). Assumes nothing.
-use borrow.Author.Rules.{rules}
 use Rattle.shapes.proofs.Parsing.{policy_above, number_unknown, length_tested}
 use Rattle.shapes.proofs.parse.not_a_call.Goals as goal
 

@@ -1,16 +1,14 @@
 -- `shapes::parse::parse` meets its contract: the tests leave the known numbers with a body of their length (Parsing), and each arm
 -- reads its own number's command.
 -- Assumes nothing.
-use mathlib.Core.Path.{◌≡◌, ◌∙◌, sym}
-use mathlib.Core.Bool.{true}
+use mathlib.Core.Path.{◌∙◌, sym}
 use native.Mathlib.Omega.{arith}
-use borrow.Author.Rules.{rules}
 use borrow.Author.Tests.{not-true, not-false}
 use Rattle.sheets.specs.Reading.{read_command, readers}
-use Rattle.sheets.specs.Faults.{known_number, body_length, body_lengths}
+use Rattle.sheets.specs.Faults.{body_length, body_lengths}
 use Rattle.sheets.specs.Bytes.{byte_at}
 use Rattle.shapes.specs.Commands.{stored_command}
-use Rattle.shapes.proofs.Parsing.{ten, unknown, other_length, States, states}
+use Rattle.shapes.proofs.Parsing.{ten, unknown, other_length, states}
 use Rattle.shapes.proofs.parse.parse.Goals as goal
 
 pub returns-then-not-known_number : goal.returns-then-not-known_number
@@ -42,9 +40,9 @@ term_at-requires c = omega (arith, rw c.in-3.is at c.body_length.ensures)
 pub bounds-body-3 : goal.bounds-body-3
 unfolding body_length body_lengths
 bounds-body-3 c = omega (
-      arith,
-      rw c.in-3.is at c.body_length.ensures,
-    )
+  arith,
+  rw c.in-3.is at c.body_length.ensures,
+)
 
 pub bounds-body-0-in-4 : goal.bounds-body-0-in-4
 unfolding body_length body_lengths

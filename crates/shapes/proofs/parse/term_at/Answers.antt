@@ -1,9 +1,6 @@
 -- `shapes::parse::term_at` meets its contract: two bytes make a number below 65536.
 -- Assumes nothing.
 use mathlib.Core.Path.{refl}
-use Prim.Native.Nat.{◌+◌}
-use native.Mathlib.Omega.{arith}
-use borrow.Author.Rules.{rules}
 use Rattle.sheets.specs.Bytes.{byte_at, two_at}
 use Rattle.shapes.proofs.parse.term_at.Goals as goal
 

@@ -1,5 +1,4 @@
 -- `write_decimal` meets its contract: below 10 one digit is written, else the last digit behind those of a tenth (Decimals).
-use Prim.Native.Nat.{◌<◌, ◌+◌}
 use native.Mathlib.Omega.{arith}
 use Rattle.text.proofs.Decimals.{digit_room, wrote_digit, tenth_room, last_room, wrote_last}
 use Rattle.text.proofs.append.+write_decimal.Goals as goal

@@ -1,10 +1,7 @@
 -- `write_bytes` meets its contract: with i bytes behind, those are written (Placed).
-use Prim.Native.Nat.{◌-◌, ◌<◌}
-use native.Mathlib.Omega.{arith}
+use Prim.Native.Nat.{◌-◌}
 use lib.ListN.{length, take}
-use borrow.Author.Rules.{rules}
 use Rattle.text.specs.Writing.{Wrote}
-use Rattle.text.proofs.Placed.{wrote_length, wrote_none, copied_room, copied_next, copied_all}
 use Rattle.text.proofs.append.write_bytes.Given as goal
 
 abbrev pub invariant-loop-i : goal.invariant-loop-i

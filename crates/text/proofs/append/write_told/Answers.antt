@@ -1,6 +1,5 @@
 -- `write_told` meets its contract: the number is written behind the word (Placed).
 use Rattle.text.proofs.Placed.{wrote_then}
-use borrow.Author.Rules.{rules}
 use Rattle.text.proofs.append.write_told.Goals as goal
 
 pub returns : goal.returns

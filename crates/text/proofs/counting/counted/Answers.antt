@@ -1,5 +1,4 @@
 -- `counted` meets its contract, by the two cases (Counts).
-use borrow.Author.Rules.{rules}
 use Rattle.text.proofs.Counts.{counted_done, counted_refused}
 use Rattle.text.proofs.counting.counted.Goals as goal
 

@@ -1,7 +1,5 @@
 -- `tally_of` meets its contract: with i records behind, those are counted (Counts).
-use Prim.Native.Nat.{◌-◌}
-use Rattle.text.proofs.Counts.{Tallied, tallied_none, tallied_room, tallied_next, tallied_all}
-use borrow.Author.Rules.{rules}
+use Rattle.text.proofs.Counts.{tallied_none, tallied_room, tallied_next}
 use Rattle.text.proofs.counting.tally_of.Goals as goal
 
 pub loop-i-init : goal.loop-i-init

@@ -2,7 +2,6 @@
 use native.Mathlib.Omega.{arith}
 use mathlib.Core.Path.{sym, ap, ◌∙◌}
 use Rattle.shapes.specs.declared.KeyNo.{KeyNo}
-use borrow.Author.Rules.{rules}
 use Rattle.text.proofs.KnownKeyLines.{wrote_unmarked, wrote_marked}
 use Rattle.text.proofs.keys.write_entry.Goals as goal
 

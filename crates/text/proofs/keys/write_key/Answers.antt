@@ -1,7 +1,6 @@
 -- `write_key` meets its contract, word by word (WordByWord).
 use Rattle.text.specs.Text.{word, key_line}
 use Rattle.text.proofs.WordByWord.{wrote_told, wrote_end}
-use borrow.Author.Rules.{rules}
 use Rattle.text.proofs.keys.write_key.Goals as goal
 
 pub returns : goal.returns

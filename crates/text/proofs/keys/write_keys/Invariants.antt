@@ -1,11 +1,6 @@
 -- `write_keys` meets its contract: with i entries behind, the lines of their known keys are written (KnownKeyLines).
 use Prim.Native.Nat.{◌-◌}
-use native.Mathlib.Omega.{arith}
-use mathlib.Core.Path.{◌≡◌}
-use lib.ListN.{length, length-map}
-use Rattle.text.proofs.Placed.{wrote_length}
-use Rattle.text.proofs.KnownKeyLines.{KeyLined, key_lined_none, key_lined_room, key_lined_next, key_lined_all}
-use borrow.Author.Rules.{rules}
+use Rattle.text.proofs.KnownKeyLines.{KeyLined}
 use Rattle.text.proofs.keys.write_keys.Given as goal
 
 abbrev pub invariant-loop-i : goal.invariant-loop-i

@@ -1,7 +1,6 @@
 -- `write_known_keys` meets its contract: the count's line, and the keys' lines behind it (WholeText).
 use Rattle.text.specs.Text.{word}
 use Rattle.text.proofs.WholeText.{wrote_known_keys}
-use borrow.Author.Rules.{rules}
 use Rattle.text.proofs.keys.write_known_keys.Goals as goal
 
 pub returns : goal.returns

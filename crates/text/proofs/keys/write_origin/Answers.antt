@@ -1,7 +1,6 @@
 -- `write_origin` meets its contract, by the two words (KnownKeyLines).
 use Rattle.text.specs.Text.{word}
 use Rattle.text.proofs.KnownKeyLines.{wrote_own, wrote_generated}
-use borrow.Author.Rules.{rules}
 use Rattle.text.proofs.keys.write_origin.Goals as goal
 
 pub returns-then-own : goal.returns-then-own

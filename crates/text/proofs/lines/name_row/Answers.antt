@@ -1,7 +1,6 @@
 -- `name_row` meets its contract: a number of no command has no name (NameTable), and a known one has its row.
 use native.Mathlib.Omega.{arith}
 use mathlib.Core.Path.{refl, sym, ◌∙◌}
-use borrow.Author.Rules.{rules}
 use borrow.Author.Tests.{not-true, not-false}
 use Rattle.shapes.proofs.Parsing.{known_below}
 use Rattle.text.proofs.NameTable.{nameless}

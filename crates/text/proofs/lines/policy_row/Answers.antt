@@ -1,6 +1,5 @@
 -- `policy_row` meets its contract: every number from 2 on is the third policy's (NameTable).
 use native.Mathlib.Omega.{arith}
-use mathlib.Core.Path.{refl}
 use Rattle.text.proofs.NameTable.{third_policy}
 use Rattle.text.proofs.lines.policy_row.Goals as goal
 

@@ -1,7 +1,6 @@
 -- `write_first` meets its contract, word by word (WordByWord).
 use Rattle.text.specs.Text.{word, first_line}
 use Rattle.text.proofs.WordByWord.{wrote_next, wrote_told_end}
-use borrow.Author.Rules.{rules}
 use Rattle.text.proofs.lines.write_first.Goals as goal
 
 pub returns : goal.returns

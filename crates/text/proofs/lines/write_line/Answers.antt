@@ -2,7 +2,6 @@
 use native.Mathlib.Omega.{arith}
 use Rattle.text.specs.Text.{command_line}
 use Rattle.text.proofs.WordByWord.{wrote_next, wrote_end, wrote_answer}
-use borrow.Author.Rules.{rules}
 use Rattle.text.proofs.lines.write_line.Goals as goal
 
 pub write_number-requires : goal.write_number-requires

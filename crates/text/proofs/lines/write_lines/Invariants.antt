@@ -1,9 +1,6 @@
 -- `write_lines` meets its contract: with i lines behind, those are written (CommandLines).
 use Prim.Native.Nat.{◌-◌}
-use native.Mathlib.Omega.{arith}
-use Rattle.text.proofs.Placed.{wrote_length}
-use Rattle.text.proofs.CommandLines.{Lined, lined_none, lined_room, lined_next, lined_all}
-use borrow.Author.Rules.{rules}
+use Rattle.text.proofs.CommandLines.{Lined}
 use Rattle.text.proofs.lines.write_lines.Given as goal
 
 abbrev pub invariant-loop-i : goal.invariant-loop-i

@@ -1,8 +1,6 @@
 -- `write_policy` meets its contract: the policy's row of the table, as far as it is long (NameTable).
-use native.Mathlib.Omega.{arith}
 use Rattle.text.specs.Text.{word}
-use Rattle.text.proofs.NameTable.{policies, policy_inside, wrote_policy}
-use borrow.Author.Rules.{rules}
+use Rattle.text.proofs.NameTable.{policies, wrote_policy}
 use Rattle.text.proofs.lines.write_policy.Goals as goal
 
 pub returns : goal.returns

@@ -1,7 +1,6 @@
 -- `write_tally` meets its contract, word by word (WordByWord).
 use Rattle.text.specs.Text.{word, tally_line}
 use Rattle.text.proofs.WordByWord.{wrote_told, wrote_told_end}
-use borrow.Author.Rules.{rules}
 use Rattle.text.proofs.lines.write_tally.Goals as goal
 
 pub returns : goal.returns

@@ -1,5 +1,4 @@
 -- `has_number` meets its contract, by the kind of entry.
-use borrow.Author.Rules.{rules}
 use Rattle.token.specs.Known.{is_key_no}
 use Rattle.token.proofs.known.has_number.Goals as goal
 

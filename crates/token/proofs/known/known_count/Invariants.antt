@@ -1,9 +1,6 @@
 -- `known_count` meets its contract: the whole count is what is passed and what is not passed yet (ApiKnown).
 use Prim.Native.Nat.{◌-◌}
-use mathlib.Core.Path.{◌≡◌, sym, ◌∙◌}
-use lib.ListN.{length, length-map}
-use borrow.Author.Rules.{rules}
-use Rattle.token.proofs.ApiKnown.{Counted, counted_none, counted_one, counted_other, counted_all}
+use Rattle.token.proofs.ApiKnown.{Counted}
 use Rattle.token.proofs.known.known_count.Given as goal
 
 abbrev pub invariant-loop-i : goal.invariant-loop-i

@@ -1,9 +1,6 @@
 -- `origin` meets its contract: what the key comes from is what the entries not passed yet say (ApiKnown).
-use Prim.Native.Nat.{◌-◌}
-use mathlib.Core.Path.{◌≡◌, sym, ◌∙◌}
-use lib.ListN.{length, length-map}
-use borrow.Author.Rules.{rules}
-use Rattle.token.proofs.ApiKnown.{Sought, sought_none, sought_here, sought_other, sought_all}
+use mathlib.Core.Path.{sym, ◌∙◌}
+use Rattle.token.proofs.ApiKnown.{sought_here, sought_other, sought_all}
 use Rattle.token.proofs.known.origin.Goals as goal
 
 pub returns-then-has_number : goal.returns-then-has_number

@@ -1,9 +1,6 @@
 -- `origin` meets its contract: what the key comes from is what the entries not passed yet say (ApiKnown).
 use Prim.Native.Nat.{◌-◌}
-use mathlib.Core.Path.{◌≡◌, sym, ◌∙◌}
-use lib.ListN.{length, length-map}
-use borrow.Author.Rules.{rules}
-use Rattle.token.proofs.ApiKnown.{Sought, sought_none, sought_here, sought_other, sought_all}
+use Rattle.token.proofs.ApiKnown.{Sought}
 use Rattle.token.proofs.known.origin.Given as goal
 
 abbrev pub invariant-loop-i : goal.invariant-loop-i

@@ -1,10 +1,6 @@
 -- `write_keys` meets its contract: what is written is what the entries not passed yet leave to write (ApiWritten).
-use Prim.Native.Nat.{◌+◌, ◌-◌, ◌≤◌}
-use mathlib.Core.Path.{◌≡◌, sym, ◌∙◌, ap}
-use native.Mathlib.Omega.{arith}
-use lib.ListN.{length, length-map, length-set}
-use borrow.Author.Rules.{rules}
-use Rattle.token.proofs.ApiWritten.{Writing, writing_none, writing_other, writing_room, writing_one, writing_all}
+use Prim.Native.Nat.{◌-◌}
+use Rattle.token.proofs.ApiWritten.{Writing}
 use Rattle.token.proofs.known.write_keys.Given as goal
 
 abbrev pub invariant-loop-i : goal.invariant-loop-i

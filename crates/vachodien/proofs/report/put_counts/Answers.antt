@@ -1,7 +1,4 @@
 -- `put_counts` meets its contract: four stores at the front (ReportWritten).
-use native.Mathlib.Omega.{arith}
-use borrow.Author.Rules.{rules}
-use lib.ListN.{length-set}
 use Rattle.vachodien.proofs.ReportWritten.{over_counts}
 use Rattle.vachodien.proofs.report.put_counts.Goals as goal
 

@@ -1,12 +1,8 @@
 -- `put_records` meets its contract: the first i bytes stand over the front of the buffer (the writer's Over).
-use Prim.Native.Nat.{ℕ, ◌≤◌, ◌-◌}
+use Prim.Native.Nat.{◌≤◌, ◌-◌}
 use mathlib.Core.Path.{◌≡◌}
-use native.Mathlib.Omega.{arith}
-use borrow.Author.Rules.{rules}
 use lib.ListN.{take}
 use lib.Seq.{paste}
-use Rattle.writer.proofs.Over.{copied_none}
-use Rattle.vachodien.proofs.ReportWritten.{copy_next, copy_length, copy_all}
 use Rattle.vachodien.proofs.report.put_records.Given as goal
 
 abbrev pub invariant-loop-i : goal.invariant-loop-i

@@ -1,10 +1,7 @@
 -- `report` meets its contract: nothing is written into a short buffer; else the counts, the records behind them and the keys behind
 -- these (ReportWritten).
-use Prim.Native.Nat.{ℕ, ◌≤◌}
-use mathlib.Core.Path.{◌≡◌, refl}
+use mathlib.Core.Path.{refl}
 use native.Mathlib.Omega.{arith}
-use borrow.Author.Rules.{rules}
-use lib.ListN.{length, length-map}
 use Rattle.vachodien.proofs.ReportWritten.{marked_few, report_short, report_whole}
 use Rattle.vachodien.proofs.report.report.Goals as goal
 

@@ -1,5 +1,5 @@
 //! Finds the proved library's archive: in the folder that VACHODIEN_ARCHIVE names (an absolute path), else in
-//! target/staticlib of the repository, where `rt staticlib vachodien` writes it.
+//! target/staticlib of the repository, where `./build` writes it.
 
 use std::env;
 use std::path::PathBuf;
@@ -18,7 +18,7 @@ fn main() {
             "cargo::error=there is no proved library at {}",
             archive.display()
         );
-        println!("cargo::error=run `rt staticlib vachodien` in the repository's root first, or let VACHODIEN_ARCHIVE name the folder that has libvachodien.a");
+        println!("cargo::error=run `./build` in the repository's root first, or let VACHODIEN_ARCHIVE name the folder that has libvachodien.a");
         return;
     }
     println!("cargo::rustc-link-search=native={}", folder.display());

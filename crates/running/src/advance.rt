@@ -18,7 +18,7 @@ use handles::{set_dead, set_live};
 use reader::Read;
 use reader::handing::read_entry;
 use shapes::{Command, Entry, HandleNo, KeyNo, Marks, Slot, Term, TermNo};
-use token::{Hands, Links, Token};
+use token::Token;
 
 // The command of an entry. A good sheet has all its entries; that one that is not there reads as OWN KEY is never met.
 fn command_in(sheet: &[u8], i: u16) -> Command
@@ -257,15 +257,15 @@ pub fn advance(token: Token, policy: u8, sheet: &[u8], n: u16, records: &mut [u8
         };
         table = follow(table, &newest, &older, p);
     }
-    Token {
-        table,
-        links: Links {
-            newest,
-            older,
-            heads,
-            chain,
-            codes,
-        },
-        hands: Hands { slots, live },
-    }
+    // Stored back part by part, since a token made anew would stand on the stack once more.
+    let mut end = token;
+    end.table = table;
+    end.links.newest = newest;
+    end.links.older = older;
+    end.links.heads = heads;
+    end.links.chain = chain;
+    end.links.codes = codes;
+    end.hands.slots = slots;
+    end.hands.live = live;
+    end
 }

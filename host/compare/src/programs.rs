@@ -5,7 +5,7 @@ use std::io::Write;
 use std::path::{Path, PathBuf};
 use std::process::{Command, Stdio};
 
-/// The program that VACHODIEN_ROUNDS names, else the one that `rt check` builds.
+/// The program that VACHODIEN_ROUNDS names, else the one that `./build` makes.
 pub fn rounds() -> Result<PathBuf, String> {
     let path = match env::var_os("VACHODIEN_ROUNDS") {
         Some(path) => PathBuf::from(path),
@@ -15,7 +15,7 @@ pub fn rounds() -> Result<PathBuf, String> {
         Ok(path)
     } else {
         Err(format!(
-            "there is no program rounds at {}: run `rt check rounds` in the repository's root, or let VACHODIEN_ROUNDS name it",
+            "there is no program rounds at {}: run `./build rounds` in the repository's root, or let VACHODIEN_ROUNDS name it",
             path.display()
         ))
     }

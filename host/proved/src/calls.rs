@@ -10,7 +10,7 @@ use std::thread;
 /// So many bytes does the program read at most.
 pub const LONGEST_CALLS: usize = 65_536;
 
-/// The program that VACHODIEN_DIRECT names, else the one that `rt check` builds.
+/// The program that VACHODIEN_DIRECT names, else the one that `./build` makes.
 fn direct() -> Result<PathBuf, String> {
     let path = match env::var_os("VACHODIEN_DIRECT") {
         Some(path) => PathBuf::from(path),
@@ -20,7 +20,7 @@ fn direct() -> Result<PathBuf, String> {
         Ok(path)
     } else {
         Err(format!(
-            "there is no program direct at {}: run `rt check direct` in the repository's root, or let VACHODIEN_DIRECT name it",
+            "there is no program direct at {}: run `./build direct` in the repository's root, or let VACHODIEN_DIRECT name it",
             path.display()
         ))
     }

@@ -10,7 +10,7 @@ use borrow.Author.Tests.{le-leb, lt-leb}
 use Rattle.rules.specs.Flags.{W, U, E, D, X, N, T, has}
 use Rattle.rules.specs.Refusals.{◌if◌, first}
 use Rattle.rules.specs.State.{most_terms}
-use Rattle.rules.specs.Templates.{by-generate, by-unwrap}
+use Rattle.rules.specs.Templates.{by_generate, by_unwrap}
 use Rattle.deciding.specs.declared.Change.{Change}
 use Rattle.deciding.specs.declared.Change.TheVariants.{Bind, NewKey, NewSeal}
 use Rattle.deciding.specs.declared.Decision.{Decision}
@@ -41,7 +41,7 @@ module _ (policy flags : ℕ) (free : Free) (terms : ℕ) where
   unfolding first
   generate-2 e f = simp (e, le-leb 128 flags f)
 
-  module _ (f : flags < 128) {g : Bool} (eg : g ≡ granted_by policy by-generate flags) where
+  module _ (f : flags < 128) {g : Bool} (eg : g ≡ granted_by policy by_generate flags) where
     pub generate-5 : {r : Decision} → r ≡ refused_with 5 → not g ≡ true → Generate r
     unfolding first
     generate-5 e ng = simp (e, lt-leb 128 flags f, ← eg, ng)
@@ -99,7 +99,7 @@ module _ (policy flags : ℕ) (payload : Entry) (free : Free) (slot : Slot) (ent
   abbrev Unwrap : Decision → Type 0
   Unwrap r = r ≡ decided_unwrap policy (Live slot) (There entry) flags payload free
 
-  module _ {g : Bool} (eg : g ≡ granted_by policy by-unwrap flags) where
+  module _ {g : Bool} (eg : g ≡ granted_by policy by_unwrap flags) where
     pub unwrap-5 : {r : Decision} → r ≡ refused_with 5 → not g ≡ true → Unwrap r
     unfolding first
     unwrap-5 e ng = simp (e, lt-leb 128 flags f, ← eg, ng)

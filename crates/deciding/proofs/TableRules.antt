@@ -10,7 +10,7 @@ use lib.ListN.{get_or}
 use borrow.Author.Tests.{le-leb}
 use Rattle.terms.specs.Lists.{some_of, is_in}
 use Rattle.rules.specs.Flags.{value}
-use Rattle.rules.specs.Templates.{plain, stp+, Making, by-generate, by-unwrap, templates, grants}
+use Rattle.rules.specs.Templates.{plain, stp+, Making, by_generate, by_unwrap, templates, grants}
 use Rattle.rules.specs.Refusals.{no_keys_encrypted}
 use Rattle.sheets.specs.Reading.{read_policy}
 use Rattle.shapes.proofs.Tables.{followed}
@@ -53,8 +53,8 @@ row_grants (suc (suc (suc (suc row)))) flags h = absurd (omega arith)
 -- under plain every byte up to 127 is granted, however the handle is made
 pub plain_grants : (making : Making) (flags : ℕ) → grants (templates plain making) flags ≡ leb flags 127
 unfolding grants templates
-plain_grants by-generate flags = refl
-plain_grants by-unwrap flags = refl
+plain_grants by_generate flags = refl
+plain_grants by_unwrap flags = refl
 
 -- a policy number of 2 or more is STP+, and a making other than 0 is by UNWRAP
 pub policy_from_2 : (policy : ℕ) → (policy ≡ 0 → ⊥) → (policy ≡ 1 → ⊥) → read_policy policy ≡ stp+
@@ -63,7 +63,7 @@ policy_from_2 zero f g = absurd (f refl)
 policy_from_2 (suc zero) f g = absurd (g refl)
 policy_from_2 (suc (suc n)) f g = refl
 
-pub making_from_1 : (making : ℕ) → (making ≡ 0 → ⊥) → making_of making ≡ by-unwrap
+pub making_from_1 : (making : ℕ) → (making ≡ 0 → ⊥) → making_of making ≡ by_unwrap
 making_from_1 zero f = absurd (f refl)
 making_from_1 (suc n) f = refl
 

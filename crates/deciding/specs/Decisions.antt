@@ -3,7 +3,7 @@
 -- that the two agree where the view is the state's is proved (crates/running/proofs/Decided.antt). Assumes nothing.
 use Rattle.std.specs.Prelude.{ℕ, zero, suc, Bool, true, false, not, ◌&&◌, ◌||◌, cond, [], ◌∷◌, leb}
 use Rattle.rules.specs.Flags.{W, U, E, D, X, N, T, has}
-use Rattle.rules.specs.Templates.{Making, by-generate, by-unwrap, templates, grants}
+use Rattle.rules.specs.Templates.{Making, by_generate, by_unwrap, templates, grants}
 use Rattle.rules.specs.Refusals.{◌if◌, first, no_keys_encrypted}
 use Rattle.rules.specs.State.{most_terms}
 use Rattle.sheets.specs.Reading.{read_policy}
@@ -78,7 +78,7 @@ decided_generate policy flags free terms =
     decision
     (first
     ((2 if leb 128 flags)
-    ∷ (5 if not (granted_by policy by-generate flags))
+    ∷ (5 if not (granted_by policy by_generate flags))
     ∷ (10 if is_full free)
     ∷ (11 if leb most_terms terms)
     ∷ []))
@@ -115,7 +115,7 @@ decided_unwrap policy h t flags payload free =
     ((2 if leb 128 flags)
     ∷ (3 if is_dead h)
     ∷ (4 if is_missing t)
-    ∷ (5 if not (granted_by policy by-unwrap flags))
+    ∷ (5 if not (granted_by policy by_unwrap flags))
     ∷ (6 if not (has U (slot_in h).flags))
     ∷ (7 if not (is_held (entry_in t)))
     ∷ (8 if not (is_sealed_under (slot_in h).key (entry_in t).term && is_key_entry payload))

@@ -2,12 +2,12 @@
 -- Assumes nothing.
 use Rattle.std.specs.Prelude.{ℕ, zero, suc, ◌/◌, ◌%◌, Bool, eqb}
 use Rattle.rules.specs.Flags.{Flag, W, U, E, D}
-use Rattle.rules.specs.Templates.{Making, by-generate, by-unwrap}
+use Rattle.rules.specs.Templates.{Making, by_generate, by_unwrap}
 
 -- the two ways to make a handle, by number
 abbrev pub making_of : ℕ → Making
-making_of zero = by-generate
-making_of (suc n) = by-unwrap
+making_of zero = by_generate
+making_of (suc n) = by_unwrap
 
 -- the flag that command 2 + n needs on its first handle: WRAP, UNWRAP, ENCRYPT, DECRYPT
 abbrev pub needed_by : ℕ → Flag

@@ -18,7 +18,7 @@ use Rattle.rules.specs.Runs.{Answer, number_in, Step, Run, Reachable}
 use Rattle.rules.specs.Known.{Known, IsCompromised, KnownList}
 use Rattle.rules.specs.Computing.{next_outcome, said_by, end_of, known_of}
 use Rattle.rules.proofs.FirstRefusal.{NoneApplies, FirstRefusal}
-use Rattle.rules.proofs.Steps.{step_unique, run_unique, answer_in_table, refused_leaves, done_steps, refused_exactly as by-first-refusal, done_exactly as by-no-refusal}
+use Rattle.rules.proofs.Steps.{step_unique, run_unique, answer_in_table, refused_leaves, done_steps, refused_exactly as by_first_refusal, done_exactly as by_no_refusal}
 use Rattle.rules.proofs.SoundKept.{sound}
 use Rattle.rules.proofs.Computed.{computed_step, has_run}
 use Rattle.rules.proofs.KnownLists.{known_list_unique, known_of_is}
@@ -83,12 +83,12 @@ pub refused_exactly : {p : Policy} {s : State} {c : Command} {a : Answer} {next 
     → (n : ℕ)
     → ¬ (n ≡ 0)
     → (a.answer ≡ n) ↔ FirstRefusal (refusals p step.held s.now c) n
-refused_exactly = by-first-refusal
+refused_exactly = by_first_refusal
 
 pub done_exactly : {p : Policy} {s : State} {c : Command} {a : Answer} {next : State}
     → (step : Step p s c a next)
     → (a.answer ≡ 0) ↔ NoneApplies (refusals p step.held s.now c)
-done_exactly = by-no-refusal
+done_exactly = by_no_refusal
 
 -- ".. and otherwise answers as they say": the value is the number of what the command answers, and the state is the one after it
 pub done_answers : {p : Policy} {s : State} {c : Command} {a : Answer} {next : State}

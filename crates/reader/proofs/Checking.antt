@@ -80,10 +80,10 @@ module _ (s : List ℕ) (n : ℕ) (counted : n ≡ two_at s 1) where
     entry_inside = omega (arith, ahead, w.header.table_inside)
 
     -- .. and its number and offset are tested
-    module _ (number offset : ℕ) (is_number : number ≡ entry_number s i) (is-offset : offset ≡ entry_offset s i) where
+    module _ (number offset : ℕ) (is_number : number ≡ entry_number s i) (is_offset : offset ≡ entry_offset s i) where
       tested : faulty number offset end (length s) ≡ entry_fault s i
       unfolding entry_fault bodies_end
-      tested = rw (is_number, is-offset, w.at_end)
+      tested = rw (is_number, is_offset, w.at_end)
 
       -- an entry with a fault is named
       pub entry_named : faulty number offset end (length s) ≡ true → Malformed (i + 1) ≡ checked s

@@ -97,19 +97,19 @@ module _ (s : List ℕ) (i : ℕ) where
   entry_outside begin begins h =
       rw (lt-leb (bodies_begin (suc i)) (length s) (omega (arith, begins, begin_next i)))
 
-  module _ (offset : ℕ) (is-offset : offset ≡ entry_offset s i) where
+  module _ (offset : ℕ) (is_offset : offset ≡ entry_offset s i) where
     pub offset_outside : length s < offset → false ≡ has_body s i
     unfolding has_body
     offset_outside h =
-        let past : length s < entry_offset s i + body_length (entry_number s i) = omega (arith, is-offset) in
+        let past : length s < entry_offset s i + body_length (entry_number s i) = omega (arith, is_offset) in
         rw (lt-leb (entry_offset s i + body_length (entry_number s i)) (length s) past, and-false)
 
     pub room_decides : (number size : ℕ) → number ≡ entry_number s i → size ≡ body_length number
         → bodies_begin (suc i) ≤ length s → offset ≤ length s → leb size (length s - offset) ≡ has_body s i
     unfolding has_body has_entry
     room_decides number size numbered sized h inside =
-        let here : entry_offset s i ≤ length s = omega (arith, is-offset) in
-        rw (sized, numbered, is-offset, le-leb (bodies_begin (suc i)) (length s) h)
+        let here : entry_offset s i ≤ length s = omega (arith, is_offset) in
+        rw (sized, numbered, is_offset, le-leb (bodies_begin (suc i)) (length s) h)
         (room_enough (length s) (entry_offset s i) (body_length (entry_number s i)) here)
 
   -- a body that is there lies inside, as its entry does
@@ -149,8 +149,8 @@ module _ (s : List ℕ) (i : ℕ) where
 
     pub part_is : take (from + size - from) (drop from s) ≡ body_at s i
     part_is =
-        let so-many : from + size - from ≡ body_length (entry_number s i) = omega (arith, sized ∙ ap body_length numbered) in
-        rw (so-many, offset) (sym (the_body there))
+        let so_many : from + size - from ≡ body_length (entry_number s i) = omega (arith, sized ∙ ap body_length numbered) in
+        rw (so_many, offset) (sym (the_body there))
 
   pub no_entry : has_body s i ≡ false → entry_at s i ≡ NoEntry
   unfolding entry_at

@@ -14,4 +14,4 @@ abbrev pub KeptBeside : Policy → (J I : State → Type 0) → Type 0
 KeptBeside p J I = (s : State) (c : Command) (held : ℕ → Bool) → Judge s held → Done p held s.now c → J s → I s → I (after s c)
 
 pub kept_beside : {p : Policy} (J I : State → Type 0) → Kept p J → KeptBeside p J I → Kept p (λ s. J s × I s)
-kept_beside J I kept-J kept-I s c held judges d (j, i) = (kept-J s c held judges d j, kept-I s c held judges d j i)
+kept_beside J I kept_J kept_I s c held judges d (j, i) = (kept_J s c held judges d j, kept_I s c held judges d j i)

@@ -50,4 +50,4 @@ module _ {kind : ℕ → Bool} {births : List Birth} where
 
   -- of a handle whose byte is not of the kind nothing is asked
   pub not_of_kind : (k f : ℕ) → kind f ≡ false → FromBirth kind births (live k f)
-  not_of_kind k f is-not e = absurd (true≢false (sym e ∙ is-not))
+  not_of_kind k f is_not e = absurd (true≢false (sym e ∙ is_not))

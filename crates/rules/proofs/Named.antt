@@ -13,7 +13,7 @@ use Rattle.terms.specs.Lists.{◌∈◌, some_of}
 use Rattle.terms.specs.Terms.{Term, item, key, seal}
 use Rattle.terms.proofs.Lists.{at_in, below_at, at_get_d}
 use Rattle.rules.specs.Flags.{Flag, W, U, E, D, X, N, T, has}
-use Rattle.rules.specs.Templates.{Policy, by-generate, by-unwrap, templates, grants}
+use Rattle.rules.specs.Templates.{Policy, by_generate, by_unwrap, templates, grants}
 use Rattle.rules.specs.Commands.{GENERATE, WRAP, UNWRAP, ENCRYPT, DECRYPT, CORRUPT, DESTROY, SEAL, body}
 use Rattle.rules.specs.State.{Now, Slot, dead, live, slot, is_live, key_of_slot, flags_of, is_term, term_at, is_key, key_number}
 use Rattle.rules.specs.State.{payload, all_live}
@@ -88,7 +88,7 @@ key_term (seal k m) e = absurd (false≢true e)
 
 -- one row of the table of commands each, in its order
 pub record Generates (p : Policy) (f : ℕ) (now : Now) : Type 0 where
-  pub granted : grants (templates p by-generate) f ≡ true
+  pub granted : grants (templates p by_generate) f ≡ true
   pub handle_free : all_live now ≡ false
 
 pub generates : {p : Policy} {held : ℕ → Bool} {now : Now} {f : ℕ} → Done p held now (GENERATE f) → Generates p f now
@@ -126,7 +126,7 @@ wraps_named {now} {a} {b} d =
 pub record Unwraps (p : Policy) (held : ℕ → Bool) (now : Now) (h t f : ℕ) : Type 0 where
   pub handle : Live now h
   pub the_term : There held now t
-  pub granted : grants (templates p by-unwrap) f ≡ true
+  pub granted : grants (templates p by_unwrap) f ≡ true
   pub unwraps : has U handle.flags_no ≡ true
   pub sealed_key : term_at now t ≡ seal handle.key_no (key (key_number (payload (term_at now t))))
   pub handle_free : all_live now ≡ false

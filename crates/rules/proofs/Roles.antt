@@ -89,10 +89,10 @@ module _ {p : Policy} {s : State} (i : Sound s) (r : Roles p s) where
             → IsExplained p s m
         open_up h decrypts (a_seal u e) = e
         open_up h decrypts (a_wrap w) =
-            let born-W = r.rights.outer_wraps w in
-            let born-D = r.rights.decrypting _ h decrypts in
-            let same_byte = i.births.one_birth born-D.is_born born-W.is_born in
-            absurd (r.rights.one_right born-W.is_born born-W.is_of_kind (rw same_byte at born-D.is_of_kind))
+            let born_W = r.rights.outer_wraps w in
+            let born_D = r.rights.decrypting _ h decrypts in
+            let same_byte = i.births.one_birth born_D.is_born born_W.is_born in
+            absurd (r.rights.one_right born_W.is_born born_W.is_of_kind (rw same_byte at born_D.is_of_kind))
 
 roles_fresh : {p : Policy} → Roles p fresh
 unfolding fresh

@@ -202,7 +202,7 @@ module _ {s : State} (i : Sound s) where
   pub sound_owns : (m : Term) → m ∈ s.past.given → ((k : ℕ) → key k ≡ m → get_elem? s.now.origins k ≡ some own) →
       Sound (with_change (owns m) s)
   unfolding change_now change_past
-  sound_owns m was-given origin =
+  sound_owns m was_given origin =
       record {
         counted = i.counted;
         handled = i.handled;
@@ -210,7 +210,7 @@ module _ {s : State} (i : Sound s) where
             record {
               items_given = i.passed.items_given;
               seals_given = i.passed.seals_given;
-              own_given = λ h. ⊎_elim (λ e. Memᴰ.cast e was-given) (λ o. i.passed.own_given o) (Memᴰ.cases_cons h);
+              own_given = λ h. ⊎_elim (λ e. Memᴰ.cast e was_given) (λ o. i.passed.own_given o) (Memᴰ.cases_cons h);
               given_in = i.passed.given_in;
               corrupted_given = i.passed.corrupted_given;
               wrap_sealed = i.passed.wrap_sealed;
@@ -226,7 +226,7 @@ module _ {s : State} (i : Sound s) where
   -- a key that was given is corrupted
   pub sound_corrupts : (k : ℕ) → key k ∈ s.past.given → Sound (with_change (corrupts k) s)
   unfolding change_now change_past
-  sound_corrupts k was-given =
+  sound_corrupts k was_given =
       record {
         counted = i.counted;
         handled = i.handled;
@@ -236,7 +236,7 @@ module _ {s : State} (i : Sound s) where
               seals_given = i.passed.seals_given;
               own_given = i.passed.own_given;
               given_in = i.passed.given_in;
-              corrupted_given = λ h. ⊎_elim (λ e. Memᴰ.cast (ap key e) was-given) (λ o. i.passed.corrupted_given o) (Memᴰ.cases_cons h);
+              corrupted_given = λ h. ⊎_elim (λ e. Memᴰ.cast (ap key e) was_given) (λ o. i.passed.corrupted_given o) (Memᴰ.cases_cons h);
               wrap_sealed = i.passed.wrap_sealed;
             };
         births = i.births;

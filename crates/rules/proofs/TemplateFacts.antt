@@ -7,15 +7,15 @@ use borrow.Author.Tests.{not-true}
 use Rattle.terms.specs.Lists.{some_of}
 use Rattle.terms.proofs.Lists.{some_of_false, is_in_true}
 use Rattle.rules.specs.Flags.{W, D, value, has}
-use Rattle.rules.specs.Templates.{Policy, plain, stp, stp+, by-generate, by-unwrap}
+use Rattle.rules.specs.Templates.{Policy, plain, stp, stp+, by_generate, by_unwrap}
 use Rattle.rules.specs.Templates.{Grant, every_byte, only, templates, grants}
 use Rattle.rules.proofs.Named.{both}
 
 -- a policy keeps wrapping and decrypting apart: no key is generated with both rights, and UNWRAP gives neither
 pub record Separates (p : Policy) : Type 0 where
-  pub generate_one : (f : ℕ) → grants (templates p by-generate) f ≡ true → has W f ≡ true → has D f ≡ true → ⊥
-  pub unwrap_no_W : (f : ℕ) → grants (templates p by-unwrap) f ≡ true → has W f ≡ false
-  pub unwrap_no_D : (f : ℕ) → grants (templates p by-unwrap) f ≡ true → has D f ≡ false
+  pub generate_one : (f : ℕ) → grants (templates p by_generate) f ≡ true → has W f ≡ true → has D f ≡ true → ⊥
+  pub unwrap_no_W : (f : ℕ) → grants (templates p by_unwrap) f ≡ true → has W f ≡ false
+  pub unwrap_no_D : (f : ℕ) → grants (templates p by_unwrap) f ≡ true → has D f ≡ false
 
 -- a cell of the table lists its bytes, and the test holds of none of them
 unfoldable denies : (ℕ → Bool) → Grant → Bool
@@ -34,18 +34,18 @@ both_rights f = has W f && has D f
 -- what the table has to show of a policy
 unfoldable shows_apart : Policy → Bool
 shows_apart p =
-    denies both_rights (templates p by-generate)
-    && (denies (has W) (templates p by-unwrap) && denies (has D) (templates p by-unwrap))
+    denies both_rights (templates p by_generate)
+    && (denies (has W) (templates p by_unwrap) && denies (has D) (templates p by_unwrap))
 
 separates : (p : Policy) → shows_apart p ≡ true → Separates p
 unfolding shows_apart both_rights
 separates p e =
     let (one, rest) = both _ _ e in
-    let (no-W, no-D) = both _ _ rest in
+    let (no_W, no_D) = both _ _ rest in
     record {
       generate_one = λ f g w d. true≢false (rw (w, d) at (none_granted both_rights _ one f g));
-      unwrap_no_W = none_granted _ _ no-W;
-      unwrap_no_D = none_granted _ _ no-D;
+      unwrap_no_W = none_granted _ _ no_W;
+      unwrap_no_D = none_granted _ _ no_D;
     }
 
 -- STP keeps wrapping and decrypting apart

@@ -5,7 +5,7 @@ use Rattle.std.specs.Prelude.{ℕ, Bool, true, false, not, ◌&&◌, cond, List,
 use Rattle.terms.specs.Lists.{some_of}
 use Rattle.terms.specs.Terms.{Term, item, key, seal, listed}
 use Rattle.rules.specs.Flags.{Flag, W, U, E, D, X, N, T, has, holds_128}
-use Rattle.rules.specs.Templates.{Policy, plain, stp, stp+, Making, by-generate, by-unwrap, templates, grants}
+use Rattle.rules.specs.Templates.{Policy, plain, stp, stp+, Making, by_generate, by_unwrap, templates, grants}
 use Rattle.rules.specs.Commands.{Command, GENERATE, WRAP, UNWRAP, ENCRYPT, DECRYPT, CORRUPT, DESTROY, OWN_KEY, OWN_DATA, SEAL}
 use Rattle.rules.specs.Commands.{Part, flags, handle, term, body}
 use Rattle.rules.specs.State.{Now, slot, is_live, key_of_slot, flags_of, is_term, term_at, is_key, payload, all_live, table_full}
@@ -41,9 +41,9 @@ pub data Template : Type 0 where
   template : Making → (flags : ℕ) → Template
 
 unfoldable pub asks_for : Command → Template
-asks_for (GENERATE f) = template by-generate f
+asks_for (GENERATE f) = template by_generate f
 asks_for (WRAP a b) = no_handle
-asks_for (UNWRAP h t f) = template by-unwrap f
+asks_for (UNWRAP h t f) = template by_unwrap f
 asks_for (ENCRYPT h t) = no_handle
 asks_for (DECRYPT h t) = no_handle
 asks_for (CORRUPT h) = no_handle

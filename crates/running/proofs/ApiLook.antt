@@ -68,4 +68,4 @@ module _ (policy : ℕ) (table : Table) (hands : Hands) (codes : List ℕ) where
       (seen_in n hands.live (get_or hands.slots n.a.0 blank_slot) (get_or hands.slots n.b.0 blank_slot)
       (get_or table.entries at blank_entry) (get_or table.entries beside blank_entry) equal table.terms)
       ≡ decided policy c (view_of table hands codes c)
-  decided_of_seen c en e-at e-beside e-code e-equal = rw (e-equal, e-code, e-beside, e-at, en) (same_decision c)
+  decided_of_seen c en e_at e_beside e_code e_equal = rw (e_equal, e_code, e_beside, e_at, en) (same_decision c)

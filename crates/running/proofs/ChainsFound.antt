@@ -91,7 +91,7 @@ next_link_is heads chain codes code i f h b =
     inside : ltb i f.count ≡ true
     inside = bool_cases (ltb i f.count) (λ e. e) (λ e. absurd (blank (ltb-false _ _ e)))
 
-module _ (heads chain codes : List ℕ) (code link : ℕ) (f : Findable heads chain codes) (some-code : 0 < code)
+module _ (heads chain codes : List ℕ) (code link : ℕ) (f : Findable heads chain codes) (some_code : 0 < code)
     (w : Walking codes code link) (goes : link ≢ 0) where
   -- the link leads to a number in range
   pub walk_inside : link - 1 < most_terms
@@ -111,15 +111,15 @@ module _ (heads chain codes : List ℕ) (code link : ℕ) (f : Findable heads ch
   pub walk_found : get_or codes (link - 1) 0 ≡ code → At (record { 0 = link - 1 }) ≡ equal_in codes code
   unfolding equal_in
   walk_found e =
-      let last-here : last (has_code codes code) most_terms ≡ suc (link - 1) =
+      let last_here : last (has_code codes code) most_terms ≡ suc (link - 1) =
       w.below ∙ ap (last (has_code codes code)) is_suc ∙ last_hit (has_code codes code) (link - 1) (eq-eqb _ _ e) in
-      rw last-here
+      rw last_here
 
   -- it has not: the walk goes on
   pub walk_goes_on : get_or codes (link - 1) 0 ≢ code → Walking codes code (get_or chain (link - 1) 0)
   walk_goes_on e =
       rw next_is
-      (walking_below codes code (link - 1) some-code (omega (arith, w.low))
+      (walking_below codes code (link - 1) some_code (omega (arith, w.low))
       (w.below ∙ ap (last (has_code codes code)) is_suc ∙ last_miss (has_code codes code) (link - 1) (ne_eqb _ _ e)))
 
 -- the walk ends at no link: nothing has the code

@@ -21,10 +21,10 @@ use Rattle.running.proofs.ShownLeak.{Leaking}
 -- a term is entered and given, and nothing else changes that a token shows
 pub record Answers (s s' : State) (m : Term) : Type 0 where
   pub entered : s'.now.table ≡ enter s.now.table m
-  pub same-origins : s'.now.origins ≡ s.now.origins
-  pub same-handles : s'.now.handles ≡ s.now.handles
+  pub same_origins : s'.now.origins ≡ s.now.origins
+  pub same_handles : s'.now.handles ≡ s.now.handles
   pub same_own : s'.past.own ≡ s.past.own
-  pub given-more : s'.past.given ≡ m ∷ s.past.given
+  pub given_more : s'.past.given ≡ m ∷ s.past.given
 
 module _ {s s' : State} {m : Term} (a : Answers s s' m) where
   -- what is owned was owned; what is given was given, or is the term
@@ -32,34 +32,34 @@ module _ {s s' : State} {m : Term} (a : Answers s s' m) where
   own-was {x} h = subst (λ (l : List Term). x ∈ l) a.same_own h
 
   given-was : {x : Term} → x ∈ s'.past.given → (x ≡ m) ⊎ (x ∈ s.past.given)
-  given-was {x} h = Memᴰ.cases_cons (subst (λ (l : List Term). x ∈ l) a.given-more h)
+  given-was {x} h = Memᴰ.cases_cons (subst (λ (l : List Term). x ∈ l) a.given_more h)
 
   -- what is reached stays reached
   still : (table : (x : Term) → x ∈ s.now.table → x ∈ s'.now.table) → (k : ℕ) → Reaches s k → Reaches s' k
   still table k r =
       reached_more (λ x h. subst (λ (l : List Term). x ∈ l) (sym a.same_own) h)
-      (λ x h. subst (λ (l : List Term). x ∈ l) (sym a.given-more) (Memᴰ.tail h)) table r
+      (λ x h. subst (λ (l : List Term). x ∈ l) (sym a.given_more) (Memᴰ.tail h)) table r
 
   -- the term was there: the table stays
-  pub same-table : m ∈ s.now.table → s'.now.table ≡ s.now.table
-  same-table h = a.entered ∙ enter_listed s.now.table m (in_listed h)
+  pub same_table : m ∈ s.now.table → s'.now.table ≡ s.now.table
+  same_table h = a.entered ∙ enter_listed s.now.table m (in_listed h)
 
   -- it was not: it is at the end
-  pub more-table : listed s.now.table m ≡ false → s'.now.table ≡ s.now.table ++ m ∷ []
-  more-table e = a.entered ∙ enter_new s.now.table m e
+  pub more_table : listed s.now.table m ≡ false → s'.now.table ≡ s.now.table ++ m ∷ []
+  more_table e = a.entered ∙ enter_new s.now.table m e
 
   -- the term was there, and held if it is a key: nothing changes
   module _ (there : m ∈ s.now.table) where
     -- the table holds what it held
     in-old : {x : Term} → x ∈ s'.now.table → x ∈ s.now.table
-    in-old {x} h = subst (λ (l : Table). x ∈ l) (same-table there) h
+    in-old {x} h = subst (λ (l : Table). x ∈ l) (same_table there) h
 
     in-new : (x : Term) → x ∈ s.now.table → x ∈ s'.now.table
-    in-new x h = subst (λ (l : Table). x ∈ l) (sym (same-table there)) h
+    in-new x h = subst (λ (l : Table). x ∈ l) (sym (same_table there)) h
 
     -- every key keeps its mark
-    pub again-marks : ((k : ℕ) → m ≡ key k → Reaches s k) → SameMarks s s'
-    again-marks known k h =
+    pub again_marks : ((k : ℕ) → m ≡ key k → Reaches s k) → SameMarks s s'
+    again_marks known k h =
         same_mark s s' k (still in-new k)
         (reached_within (record {
           own_within = λ j o. own_key (own-was o);
@@ -68,15 +68,15 @@ module _ {s s' : State} {m : Term} (a : Answers s s' m) where
         }))
 
     -- a key that is given leaks
-    pub gift-leaks : (j : ℕ) → m ≡ key j → mark s j ≡ false → Leaking s s' (number_of s.now.table m)
-    gift-leaks j e unmarked =
+    pub gift_leaks : (j : ℕ) → m ≡ key j → mark s j ≡ false → Leaking s s' (number_of s.now.table m)
+    gift_leaks j e unmarked =
         record {
           leaked = j;
           leaked_at =
-              subst (λ (l : Table). get_elem? l (number_of s.now.table m) ≡ some (key j)) (sym (same-table there))
+              subst (λ (l : Table). get_elem? l (number_of s.now.table m) ≡ some (key j)) (sym (same_table there))
               (number_at there ∙ ap {B = Option Term} some e);
           not_marked = unmarked;
-          leaked_reached = given_key (subst (λ (l : List Term). key j ∈ l) (sym a.given-more) (Memᴰ.head (sym e)));
+          leaked_reached = given_key (subst (λ (l : List Term). key j ∈ l) (sym a.given_more) (Memᴰ.head (sym e)));
           still_reached = still in-new;
           own_old = λ k h. own_key (own-was h);
           given_old = λ k h. ⊎_elim (λ (q : key k ≡ m). inr (same k q)) (λ g. inl (given_key g)) (given-was h);
@@ -90,20 +90,20 @@ module _ {s s' : State} {m : Term} (a : Answers s s' m) where
   module _ (k : ℕ) (x : Term) (is_seal : m ≡ seal k x) (new : listed s.now.table m ≡ false) where
     -- the table holds what it held, and the seal
     in-more : (y : Term) → y ∈ s.now.table → y ∈ s'.now.table
-    in-more y h = subst (λ (l : Table). y ∈ l) (sym (more-table new)) (Memᴰ.append_left (m ∷ []) h)
+    in-more y h = subst (λ (l : Table). y ∈ l) (sym (more_table new)) (Memᴰ.append_left (m ∷ []) h)
 
     in-was : {y : Term} → y ∈ s'.now.table → (y ∈ s.now.table) ⊎ (y ≡ m)
     in-was {y} h =
         ⊎_elim inl (λ n. inr (Memᴰ.eq_of_singleton n))
-        (Memᴰ.append_cases s.now.table (subst (λ (l : Table). y ∈ l) (more-table new) h))
+        (Memᴰ.append_cases s.now.table (subst (λ (l : Table). y ∈ l) (more_table new) h))
 
     -- a seal is no key
     no_key : {j : ℕ} → ¬ (key j ≡ m)
     no_key q = let z : ◌≡◌ {A = ℕ} 0 1 = cc in omega arith
 
     -- its key is not reached, or its payload is no key or is reached: every key keeps its mark
-    pub seal-marks : ((j : ℕ) → x ≡ key j → Reaches s k → Reaches s j) → SameMarks s s'
-    seal-marks known n h =
+    pub seal_marks : ((j : ℕ) → x ≡ key j → Reaches s k → Reaches s j) → SameMarks s s'
+    seal_marks known n h =
         same_mark s s' n (still in-more n)
         (reached_within (record {
           own_within = λ j o. own_key (own-was o);
@@ -118,13 +118,13 @@ module _ {s s' : State} {m : Term} (a : Answers s s' m) where
             known j xj (subst (Reaches s) ok r)
 
     -- its key is reached, and the payload is a key: that leaks
-    pub seal-leaks : (j : ℕ) → x ≡ key j → mark s j ≡ false → x ∈ s.now.table → Reaches s k →
+    pub seal_leaks : (j : ℕ) → x ≡ key j → mark s j ≡ false → x ∈ s.now.table → Reaches s k →
         Leaking s s' (number_of s.now.table x)
-    seal-leaks j e unmarked there reached =
+    seal_leaks j e unmarked there reached =
         record {
           leaked = j;
           leaked_at =
-              subst (λ (l : Table). get_elem? l (number_of s.now.table x) ≡ some (key j)) (sym (more-table new))
+              subst (λ (l : Table). get_elem? l (number_of s.now.table x) ≡ some (key j)) (sym (more_table new))
               (at_append s.now.table (m ∷ []) (number_of s.now.table x) (number_at there ∙ ap {B = Option Term} some e));
           not_marked = unmarked;
           leaked_reached = under_key at_end (still in-more k reached);
@@ -136,7 +136,7 @@ module _ {s s' : State} {m : Term} (a : Answers s s' m) where
       where
         at_end : seal k (key j) ∈ s'.now.table
         at_end =
-            subst (λ (l : Table). seal k (key j) ∈ l) (sym (more-table new))
+            subst (λ (l : Table). seal k (key j) ∈ l) (sym (more_table new))
             (Memᴰ.append_right s.now.table (Memᴰ.head (ap (seal k) (sym e) ∙ sym is_seal)))
 
         of_new : (i o : ℕ) → seal o (key i) ≡ m → i ≡ j

@@ -47,7 +47,7 @@ module _ {p : Policy} {s : State} {held : ℕ → Bool} (i : Sound s) (j : Judge
   wrap_works a b d =
       let w = wraps_named d in
       seal_works i (sound_kept p s (WRAP a b) held j d i) shows _ _ _
-      (record { entered = refl; same-origins = refl; same-handles = refl; same_own = refl; given-more = refl })
+      (record { entered = refl; same_origins = refl; same_handles = refl; same_own = refl; given_more = refl })
       (live_in i w.outer) (live_in i w.inner) (room_for d _ (Memᴰ.tail (Memᴰ.head refl))) (wrap_leaks s _ _)
 
   -- ENCRYPT seals a held term
@@ -56,7 +56,7 @@ module _ {p : Policy} {s : State} {held : ℕ → Bool} (i : Sound s) (j : Judge
   encrypt_works h n d =
       let e = encrypts_named d in
       seal_works i (sound_kept p s (ENCRYPT h n) held j d i) shows _ _ _
-      (record { entered = refl; same-origins = refl; same-handles = refl; same_own = refl; given-more = refl })
+      (record { entered = refl; same_origins = refl; same_handles = refl; same_own = refl; given_more = refl })
       (live_in i e.handle) e.the_term.in_table (room_for d _ (Memᴰ.head refl))
       (held_leaks s _ _ i (held_term j e.the_term))
 
@@ -66,7 +66,7 @@ module _ {p : Policy} {s : State} {held : ℕ → Bool} (i : Sound s) (j : Judge
   seal_command_works k n d =
       let e = seals_named d in
       seal_works i (sound_kept p s (SEAL k n) held j d i) shows _ _ _
-      (record { entered = refl; same-origins = refl; same-handles = refl; same_own = refl; given-more = refl })
+      (record { entered = refl; same_origins = refl; same_handles = refl; same_own = refl; given_more = refl })
       (subst (λ (m : Term). m ∈ s.now.table) e.is_key_term e.the_key.in_table) e.the_term.in_table
       (room_for d _ (Memᴰ.head refl)) (held_leaks s _ _ i (held_term j e.the_term))
 
@@ -76,7 +76,7 @@ module _ {p : Policy} {s : State} {held : ℕ → Bool} (i : Sound s) (j : Judge
   decrypt_works h n d =
       let e = decrypts_named d in
       gift_works i (sound_kept p s (DECRYPT h n) held j d i) shows
-      (record { entered = refl; same-origins = refl; same-handles = refl; same_own = refl; given-more = refl })
+      (record { entered = refl; same_origins = refl; same_handles = refl; same_own = refl; given_more = refl })
       (parts_in i.counted.shape (subst (λ (m : Term). m ∈ s.now.table) e.sealed e.the_term.in_table)).1
 
   -- CORRUPT gives a key
@@ -84,7 +84,7 @@ module _ {p : Policy} {s : State} {held : ℕ → Bool} (i : Sound s) (j : Judge
   unfolding change_for after_opened
   corrupt_works h d =
       gift_works i (sound_kept p s (CORRUPT h) held j d i) shows
-      (record { entered = refl; same-origins = refl; same-handles = refl; same_own = refl; given-more = refl })
+      (record { entered = refl; same_origins = refl; same_handles = refl; same_own = refl; given_more = refl })
       (live_in i (corrupts_named d))
 
   -- UNWRAP binds a handle number to a key of the table
@@ -95,7 +95,7 @@ module _ {p : Policy} {s : State} {held : ℕ → Bool} (i : Sound s) (j : Judge
       let u = unwraps_named d in
       let i' = sound_kept p s (UNWRAP h n f) held j d i in
       let inside = new_handle_below s.now i.handled.slots u.handle_free in
-      let same-slot : payload (term_at s.now n) ≡ key (key_number (payload (term_at s.now n))) =
+      let same_slot : payload (term_at s.now n) ≡ key (key_number (payload (term_at s.now n))) =
       ap payload u.sealed_key in
       record {
         applicable = hand_room (new_handle s.now) shows inside;
@@ -108,7 +108,7 @@ module _ {p : Policy} {s : State} {held : ℕ → Bool} (i : Sound s) (j : Judge
               key = record { 0 = key_number (payload (term_at s.now n)) };
               term = record { 0 = number_of s.now.table m };
               flags = f;
-            }) true r.hands) same-slot made.of_hands)
+            }) true r.hands) same_slot made.of_hands)
             shows.hands_shown);
       }
 

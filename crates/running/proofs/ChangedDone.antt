@@ -51,7 +51,7 @@ live_below {s} {h} i l =
     (λ e.
     let past : most_handles ≤ h = ltb-false h most_handles e in
     let is_dead : get_or s.now.handles h dead ≡ dead = get_or-eq_default s.now.handles dead (omega (arith, i.handled.slots)) in
-    let is-alive : get_or s.now.handles h dead ≡ live l.key_no l.flags_no = l.is_slot in
+    let is_alive : get_or s.now.handles h dead ≡ live l.key_no l.flags_no = l.is_slot in
     let z : ◌≡◌ {A = ℕ} 0 1 = cc in absurd (omega arith))
 
 -- a seal of a held term leaks no key

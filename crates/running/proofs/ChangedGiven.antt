@@ -27,7 +27,7 @@ use Rattle.running.proofs.ShownCounts.{key_below}
 use Rattle.running.proofs.ShownFollowable.{leak_followable}
 use Rattle.running.proofs.ChangedKinds.{changed_hands, changed_known, changed_sealed, changed_leaked, room_more, seal_table}
 use Rattle.running.proofs.ChangedKinds.{seal_links}
-use Rattle.running.proofs.ChangedAnswers.{Answers, same-table, more-table, again-marks, gift-leaks, seal-marks, seal-leaks}
+use Rattle.running.proofs.ChangedAnswers.{Answers, same_table, more_table, again_marks, gift_leaks, seal_marks, seal_leaks}
 use Rattle.running.proofs.ChangedWorks.{Works, term_room}
 
 -- a term that is no key that leaks is no key, or is known
@@ -49,15 +49,15 @@ module _ {s s' : State} (i : Sound s) (i' : Sound s') {t : Token} (shows : Shows
   same_hands : {m : Term} (a : Answers s s' m) → m ∈ s.now.table → ShowsHands t.hands s'.now
   same_hands a there =
       hands_kept i i'
-      (record { table_more = same_extends (same-table a there); origins_more = same_extends a.same-origins })
-      a.same-handles shows.hands_shown
+      (record { table_more = same_extends (same_table a there); origins_more = same_extends a.same_origins })
+      a.same_handles shows.hands_shown
 
   -- and where it was not
   more_hands : {m : Term} (a : Answers s s' m) → listed s.now.table m ≡ false → ShowsHands t.hands s'.now
   more_hands {m} a e =
       hands_kept i i'
-      (record { table_more = snoc_extends s.now.table m (more-table a e); origins_more = same_extends a.same-origins })
-      a.same-handles shows.hands_shown
+      (record { table_more = snoc_extends s.now.table m (more_table a e); origins_more = same_extends a.same_origins })
+      a.same_handles shows.hands_shown
 
   -- a term's number is inside
   number_inside : {x : Term} → x ∈ s.now.table → number_of s.now.table x < most_terms
@@ -71,7 +71,7 @@ module _ {s s' : State} (i : Sound s) (i' : Sound s') {t : Token} (shows : Shows
         applicable = tt;
         shows_next = λ r e.
             subst (λ (x : Token). Shows x s') (sym e)
-            (changed_hands i i' shows (same-table a there) a.same-origins (again-marks a there known) refl refl
+            (changed_hands i i' shows (same_table a there) a.same_origins (again_marks a there known) refl refl
             (same_hands a there));
       }
 
@@ -80,19 +80,19 @@ module _ {s s' : State} (i : Sound s) (i' : Sound s') {t : Token} (shows : Shows
       Works t s' (Know (record { 0 = number_of s.now.table m }))
   unfolding Applied
   know_works {m} a there j e unmarked =
-      let leak = gift-leaks a there j e unmarked in
-      let et = same-table a there in
+      let leak = gift_leaks a there j e unmarked in
+      let et = same_table a there in
       let room : length s'.now.table ≤ most_terms = subst (λ (n : ℕ). n ≤ most_terms) (ap length (sym et)) shows.room in
       record {
         applicable =
             record {
               inside = number_inside there;
               followable =
-                  leak_followable i' room (table_same i i' (table_of shows) et a.same-origins)
+                  leak_followable i' room (table_same i i' (table_of shows) et a.same_origins)
                   (subst (λ (n : ℕ). ShowsLinks t.links t.table.entries n) (ap length (sym et)) shows.links_shown) leak;
             };
         shows_next = λ r made.
-            changed_known i i' shows (number_of s.now.table m) et a.same-origins leak made.of_table made.of_links
+            changed_known i i' shows (number_of s.now.table m) et a.same_origins leak made.of_table made.of_links
             (subst (λ (x : Hands). ShowsHands x s'.now) (sym made.of_hands) (same_hands a there));
       }
 
@@ -116,10 +116,10 @@ module _ {s s' : State} (i : Sound s) (i' : Sound s') {t : Token} (shows : Shows
         Works t s' (NewSeal (record { 0 = k }) (record { 0 = number_of s.now.table x }) leaks)
     unfolding Applied
     new_works true known =
-        let et = more-table a new in
-        let eo = a.same-origins in
+        let et = more_table a new in
+        let eo = a.same_origins in
         let inner = known.leaks_key refl in
-        let leak = seal-leaks a k x refl new inner.0 inner.1 inner.2 payload_in (known.outer_known refl) in
+        let leak = seal_leaks a k x refl new inner.0 inner.1 inner.2 payload_in (known.outer_known refl) in
         record {
           applicable =
               record {
@@ -145,8 +145,8 @@ module _ {s s' : State} (i : Sound s) (i' : Sound s') {t : Token} (shows : Shows
                 followable = tt;
               };
           shows_next = λ r made.
-              changed_sealed i i' shows k x few (more-table a new) a.same-origins key_in payload_in
-              (seal-marks a k x refl new (known.no_leak refl)) made.of_table made.of_links
+              changed_sealed i i' shows k x few (more_table a new) a.same_origins key_in payload_in
+              (seal_marks a k x refl new (known.no_leak refl)) made.of_table made.of_links
               (subst (λ (y : Hands). ShowsHands y s'.now) (sym made.of_hands) (more_hands a new));
         }
 

@@ -83,7 +83,7 @@ module _ {s s' : State} {m : Term} (i : Sound s) (makes : Makes s s' m) where
 
   -- a key that is made and not given is not reached
   pub made_unmarked : s'.past.own ⊆ s.past.own → s'.past.given ⊆ s.past.given → (k : ℕ) → key k ≡ m → mark s' k ≡ false
-  made_unmarked own_same given-same k e =
+  made_unmarked own_same given_same k e =
       bool_cases (mark s' k)
       (λ y.
       absurd (makes.is_new (subst (λ (x : Term). x ∈ s.now.table) e (reached_in_table i (still (marked_reached s' k y))))))
@@ -93,7 +93,7 @@ module _ {s s' : State} {m : Term} (i : Sound s) (makes : Makes s s' m) where
       still =
           reached_within (record {
             own_within = λ n h. own_key (own_same (key n) h);
-            given_within = λ n h. given_key (given-same (key n) h);
+            given_within = λ n h. given_key (given_same (key n) h);
             seals_within = λ a n h r.
                 ⊎_elim (λ q. absurd (makes.no_seal n (key a) (sym q))) (λ o. under_key o r)
                 (table_adds.at_most (seal n (key a)) h);
@@ -122,10 +122,10 @@ module _ {s s' : State} (i : Sound s) (i' : Sound s') {t r : Token} (shows : Sho
       r.table ≡ appended t.table (key_entry t.table own) → r.links ≡ t.links →
       ShowsHands r.hands s'.now → Shows r s'
   unfolding kind_for own_for held_for new_key
-  key_made o own makes room eo is-own-key is_held_mark rt rl hands =
+  key_made o own makes room eo is_own_key is_held_mark rt rl hands =
       changed_entered i i' shows (key (new_key s.now)) room (made_table i makes) (key_entry t.table own)
       (snoc_extends s.now.origins o eo) (sym (ap length eo ∙ length_snoc s.now.origins o))
       (ap (λ (n : ℕ). Key (record { 0 = n })) shows.keys_shown)
-      (is-own-key
+      (is_own_key
       ∙ ap is_own (sym (ap (λ (l : List Origin). get_elem? l (length s.now.origins)) eo ∙ at_end s.now.origins o)))
       is_held_mark (key_no_seal _) (made_marks i makes) rt rl hands

@@ -52,9 +52,9 @@ wrapped_asked : (s : State) (h t : ℕ) (inner : Entry) →
     (is_sealed_under (slot_in (handle_of s h)).key
     (entry_in (lookup_of s t)).term && is_key_entry inner) ≡
     not (sealed_under (key_of_slot (slot s.now h)) (term_at s.now t) && is_key (payload (term_at s.now t)))
-wrapped_asked s h t inner is-inner =
+wrapped_asked s h t inner is_inner =
     ap (λ (x : Bool). not (x && is_key_entry inner)) (under_asked s h t) ∙
-    ap not (both_same _ (is_key_entry inner) _ (λ e. ap is_key_entry (is-inner e) ∙ key_of_payload s (payload (term_at s.now t))))
+    ap not (both_same _ (is_key_entry inner) _ (λ e. ap is_key_entry (is_inner e) ∙ key_of_payload s (payload (term_at s.now t))))
 
 -- DECRYPT
 pub decides_decrypt : (p : Policy) {s : State} (h t : ℕ) (inner : Entry) → Sound s →
@@ -63,7 +63,7 @@ pub decides_decrypt : (p : Policy) {s : State} (h t : ℕ) (inner : Entry) → S
     Decides p s (DECRYPT h t)
     (decided_decrypt (handle_of s h) (lookup_of s t) inner)
 unfolding asking_opened value_opened change_for
-decides_decrypt p {s} h t inner sound is-inner =
+decides_decrypt p {s} h t inner sound is_inner =
     decides_by _
     (passed_over 2 _ _ refl (both_ask 3 _ _ (dead_asked s h) (λ _.
     both_ask 4 _ _ (missing_asked s t) (λ _.
@@ -76,7 +76,7 @@ decides_decrypt p {s} h t inner sound is-inner =
     let sealed = not-false _ (done p (judge s) s.now (DECRYPT h t) e).right_kind in
     let number = payload_seen s _ t sealed in (
       rw (lookup_entry s t, number) (number_given (payload_in sound _ t sealed)),
-      rw (lookup_entry s t, number, is-inner sealed) (gift_changed s (payload (term_at s.now t))),
+      rw (lookup_entry s t, number, is_inner sealed) (gift_changed s (payload (term_at s.now t))),
     ))
 
 -- UNWRAP
@@ -87,7 +87,7 @@ pub decides_unwrap : (policy : ℕ) {p : Policy} (s : State) (h t f : ℕ) (inne
     (decided_unwrap policy (handle_of s h) (lookup_of s t) f inner
     (free_for s.now))
 unfolding asking_opened value_opened change_for or_item
-decides_unwrap policy {p} s h t f inner reads is-inner =
+decides_unwrap policy {p} s h t f inner reads is_inner =
     decides_by _
     (both_ask 2 _ _ (sym (or-false (leb 128 f))) (λ _.
     both_ask 3 _ _ (dead_asked s h) (λ _.
@@ -95,7 +95,7 @@ decides_unwrap policy {p} s h t f inner reads is-inner =
     both_ask 5 _ _ (rw reads) (λ _.
     both_ask 6 _ _ (flag_asked U s h) (λ _.
     both_ask 7 _ _ (held_asked s t) (λ _.
-    both_ask 8 _ _ (wrapped_asked s h t inner is-inner) (λ _.
+    both_ask 8 _ _ (wrapped_asked s h t inner is_inner) (λ _.
     passed_over 9 _ _ (and-false (no_keys_encrypted p)) (both_ask 10 _ _ (full_seen s.now) (λ _.
     passed_over 11 _ _ (and-false (table_full s.now)) refl))))))))))
     (λ (e : refusal_for p s (UNWRAP h t f) ≡ 0).
@@ -103,5 +103,5 @@ decides_unwrap policy {p} s h t f inner reads is-inner =
     let (sealed, a_key) = both _ _ (not-false _ d.right_kind) in
     let free = free_handle_seen s.now d.handle_free in (
       ap (λ (x : HandleNo). x.0) free,
-      rw (free, is-inner sealed, lookup_entry s t, payload_seen s _ t sealed, entry_key s (some (payload (term_at s.now t)))),
+      rw (free, is_inner sealed, lookup_entry s t, payload_seen s _ t sealed, entry_key s (some (payload (term_at s.now t)))),
     ))

@@ -61,21 +61,21 @@ pub decides_wrap : (p : Policy) (s : State) (a b : ℕ) (outer inner : Entry) (e
     (decided_wrap (handle_of s a) (handle_of s b) outer inner equal
     (length s.now.table))
 unfolding asking_opened value_opened change_for seal_change
-decides_wrap p s a b outer inner equal is-outer is-inner is-equal =
+decides_wrap p s a b outer inner equal is_outer is_inner is_equal =
     decides_by _
     (passed_over 2 _ _ refl (both_ask 3 _ _ (either_dead_asked s a b) (λ live.
     let (la, lb) = both_alive _ _ live in
     passed_over 4 _ _ refl (passed_over 5 _ _ refl (both_ask 6 _ _ (wrap_flags_asked s a b) (λ _.
     passed_over 7 _ _ refl (passed_over 8 _ _ refl (passed_over 9 _ _ (and-false (no_keys_encrypted p)) (passed_over 10 _ _ refl
-    (both_ask 11 _ _ (rw (is-equal lb) (room_asked s.now _)) (λ _. refl)))))))))))
+    (both_ask 11 _ _ (rw (is_equal lb) (room_asked s.now _)) (λ _. refl)))))))))))
     (λ (e : refusal_for p s (WRAP a b) ≡ 0).
     let (la, lb) = both_alive _ _ (done p (judge s) s.now (WRAP a b) e).handles_live in
     let k = seen_key s.now.table (slot s.now a) in
     let m = seen_term s.now.table (slot s.now b) lb in
-    let outer-held = entry_held s (key (key_of_slot (slot s.now a))) in
-    let inner-held = entry_held s (key (key_of_slot (slot s.now b))) in (
-      rw (is-equal lb) (seal_number_lem s.now.table _),
-      rw (is-equal lb, k, m, is-outer la, is-inner lb, outer-held, inner-held) (seal_changed s.now.table _ _),
+    let outer_held = entry_held s (key (key_of_slot (slot s.now a))) in
+    let inner_held = entry_held s (key (key_of_slot (slot s.now b))) in (
+      rw (is_equal lb) (seal_number_lem s.now.table _),
+      rw (is_equal lb, k, m, is_outer la, is_inner lb, outer_held, inner_held) (seal_changed s.now.table _ _),
     ))
 
 -- STP+ refuses to encrypt a key
@@ -91,7 +91,7 @@ pub decides_encrypt : (policy : ℕ) {p : Policy} {s : State} (h t : ℕ) (equal
     (decided_encrypt policy (handle_of s h) (lookup_of s t)
     (record { 0 = t }) equal (length s.now.table))
 unfolding asking_opened value_opened change_for seal_change
-decides_encrypt policy {p} {s} h t equal reads sound is-equal =
+decides_encrypt policy {p} {s} h t equal reads sound is_equal =
     decides_by _
     (passed_over 2 _ _ refl (both_ask 3 _ _ (dead_asked s h) (λ _.
     both_ask 4 _ _ (missing_asked s t) (λ exists.
@@ -99,11 +99,11 @@ decides_encrypt policy {p} {s} h t equal reads sound is-equal =
     both_ask 7 _ _ (held_asked s t) (λ _.
     passed_over 8 _ _ refl (both_ask 9 _ _ (key_asked policy s t reads) (λ _.
     passed_over 10 _ _ refl
-    (both_ask 11 _ _ (rw (is-equal (there s.now t exists)) (room_asked s.now _)) (λ _. refl)))))))))))
+    (both_ask 11 _ _ (rw (is_equal (there s.now t exists)) (room_asked s.now _)) (λ _. refl)))))))))))
     (λ (e : refusal_for p s (ENCRYPT h t) ≡ 0).
     let exists = there s.now t (done p (judge s) s.now (ENCRYPT h t) e).terms_exist in (
-      rw (is-equal exists) (seal_number_lem s.now.table _),
-      rw (is-equal exists, seen_key s.now.table (slot s.now h), term_number sound t exists)
+      rw (is_equal exists) (seal_number_lem s.now.table _),
+      rw (is_equal exists, seen_key s.now.table (slot s.now h), term_number sound t exists)
           (seal_changed s.now.table _ _),
     ))
 
@@ -115,16 +115,16 @@ pub decides_seal : (p : Policy) {s : State} (k t : ℕ) (equal : Equal) → Soun
     (decided_seal (lookup_of s k) (lookup_of s t) (record { 0 = t }) equal
     (length s.now.table))
 unfolding asking_opened value_opened change_for seal_change
-decides_seal p {s} k t equal sound is-equal =
+decides_seal p {s} k t equal sound is_equal =
     decides_by _
     (passed_over 2 _ _ refl (passed_over 3 _ _ refl (both_ask 4 _ _ (either_missing_asked s k t) (λ exist.
     let (ek, et) = both_there s.now k t exist in
     passed_over 5 _ _ refl (passed_over 6 _ _ refl (both_ask 7 _ _ (either_held_asked s k t) (λ _.
     both_ask 8 _ _ (rw (lookup_entry s k, key_seen s k)) (λ _.
     passed_over 9 _ _ (and-false (no_keys_encrypted p)) (passed_over 10 _ _ refl
-    (both_ask 11 _ _ (rw (is-equal ek et) (room_asked s.now _)) (λ _. refl)))))))))))
+    (both_ask 11 _ _ (rw (is_equal ek et) (room_asked s.now _)) (λ _. refl)))))))))))
     (λ (e : refusal_for p s (SEAL k t) ≡ 0).
     let (ek, et) = both_there s.now k t (done p (judge s) s.now (SEAL k t) e).terms_exist in (
-      rw (is-equal ek et) (seal_number_lem s.now.table _),
-      rw (is-equal ek et, lookup_entry s k, key_number_seen s k, term_number sound t et) (seal_changed s.now.table _ _),
+      rw (is_equal ek et) (seal_number_lem s.now.table _),
+      rw (is_equal ek et, lookup_entry s k, key_number_seen s k, term_number sound t et) (seal_changed s.now.table _ _),
     ))

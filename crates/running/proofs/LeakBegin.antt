@@ -108,7 +108,7 @@ module _
           (λ before. held_now (opened_before q p before (opens_before q p i j l (omega (arith, f.few)) x s y)))
           (λ (e : q ≡ t).
           let is_key : kind_at entries t ≡ Key k = f.is_key in
-          let is-key' : kind_at entries t ≡ Key j = rw e at (sym (marked_kind entries t q) ∙ x) in
+          let is_key' : kind_at entries t ≡ Key j = rw e at (sym (marked_kind entries t q) ∙ x) in
           let same : k.0 ≡ j.0 = cc in
           waiting 0 (omega arith) (top ∙ same))
           (marked_only entries t q h)

@@ -101,11 +101,11 @@ module _
             last_le (under first.entries at_seal.key) (link - 1),
           )
 
-      module _ {p : TermNo} (is-payload : p ≡ payload_no (kind_at now.entries (link - 1))) where
+      module _ {p : TermNo} (is_payload : p ≡ payload_no (kind_at now.entries (link - 1))) where
         payload_here : kind_at first.entries (link - 1) ≡ Seal (record { 0 = at_seal.key }) p
         payload_here =
             let kind : kind_at now.entries (link - 1) ≡ _ = i.walk.kept.same_kind (link - 1) ∙ seal_here.kind in
-            let same : p ≡ seal_here.payload = is-payload ∙ ap payload_no kind in
+            let same : p ≡ seal_here.payload = is_payload ∙ ap payload_no kind in
             rw same seal_here.kind
 
         pub payload_inside : p.0 < most_terms

@@ -82,14 +82,14 @@ module _ {policy n : ℕ} {b : List ℕ} (bytes : Bytes b) (call : IsCall policy
   one_sheet =
       let c = read_command n b in
       let states = stated b bytes n call.known in
-      let policy-is : policy_number (read_policy policy) ≡ policy = policy_written policy call.low in
+      let policy_is : policy_number (read_policy policy) ≡ policy = policy_written policy call.low in
       let body_is : body_bytes c ≡ bytes_from b 0 (length b) = states.its_bytes ∙ ap (bytes_from b 0) (sym call.long) in
       record {
         few = omega arith;
         holdable = each_cons Holdable c [] states.holdable (each_nil Holdable);
         bytes =
             cut policy n b (length b) call.short
-            ∙ sym (one_written (read_policy policy) c ∙ rw (policy-is, states.numbered, body_is) refl);
+            ∙ sym (one_written (read_policy policy) c ∙ rw (policy_is, states.numbered, body_is) refl);
       }
 
   pub one_read : ReadsOne (take (6 + length b) (one_command policy n b)) (read_command n b)

@@ -36,10 +36,10 @@ module _ (s : List ℕ) {c : Checked} {policy n : ℕ} (found : c ≡ checked s)
   run_asks {start} e {records} long =
       let facts = (checked_good s policy n).0 is_good in
       let most = good_most s is_good in
-      let fresh-one : Reached blank_token policy =
+      let fresh_one : Reached blank_token policy =
       subst (Reached blank_token) (policy_written policy most.0) (reached_fresh (read_policy policy)) in
       record {
-        reached = subst (λ (t : Token). Reached t policy) (sym e) fresh-one;
+        reached = subst (λ (t : Token). Reached t policy) (sym e) fresh_one;
         low = most.0;
         good = facts.no_fault;
         counted = sym facts.its_count;

@@ -78,10 +78,10 @@ module _ {s s' : State} (sound : Sound s') (room : length s'.now.table ≤ most_
       let r : SealRead s'.now.table (get_elem? s'.now.table x.seal_no) x.outer (record { 0 = o }) =
       seal_read s'.now.table _ x.outer (record { 0 = o }) (sym (terms.kinds x.seal_no) ∙ x.seal_kind) in
       let there : seal x.outer.0 r.inside ∈ s'.now.table = at_in s'.now.table x.seal_no r.is_seal in
-      let at-o : get_elem? s'.now.table o ≡ some r.inside =
+      let at_o : get_elem? s'.now.table o ≡ some r.inside =
       subst (λ (n : ℕ). get_elem? s'.now.table n ≡ some r.inside) r.its_number
       (number_at (parts_in sound.counted.shape there).1) in
-      let key-o : get_elem? s'.now.table o ≡ some (key x.inner.0) = key_at o x.inner x.inner_kind in
+      let key_o : get_elem? s'.now.table o ≡ some (key x.inner.0) = key_at o x.inner x.inner_kind in
       let same : r.inside ≡ key x.inner.0 = cc in
       subst (λ (m : Term). seal x.outer.0 m ∈ s'.now.table) same there
 
@@ -89,18 +89,18 @@ module _ {s s' : State} (sound : Sound s') (room : length s'.now.table ≤ most_
   seal_opens : (q o j k : ℕ) → seal k (key j) ∈ s'.now.table → get_elem? s'.now.table q ≡ some (key k) →
       get_elem? s'.now.table o ≡ some (key j) → Opens entries q o
   unfolding kind_for
-  seal_opens q o j k there at-q at-o =
+  seal_opens q o j k there at_q at_o =
       let a = in_at there in
       record {
         outer = record { 0 = k };
         inner = record { 0 = j };
         seal_no = a.0;
         in_range = omega (arith, a.2);
-        outer_kind = terms.kinds q ∙ ap (kind_for s'.now.table) at-q;
+        outer_kind = terms.kinds q ∙ ap (kind_for s'.now.table) at_q;
         seal_kind = terms.kinds a.0 ∙ ap (kind_for s'.now.table) a.1
             ∙ ap (λ (n : ℕ). Seal (record { 0 = k }) (record { 0 = n }))
-            (sound.counted.shape.once (number_at (at_in s'.now.table o at-o)) at-o);
-        inner_kind = terms.kinds o ∙ ap (kind_for s'.now.table) at-o;
+            (sound.counted.shape.once (number_at (at_in s'.now.table o at_o)) at_o);
+        inner_kind = terms.kinds o ∙ ap (kind_for s'.now.table) at_o;
       }
 
   -- its mark is the key's
@@ -111,13 +111,13 @@ module _ {s s' : State} (sound : Sound s') (room : length s'.now.table ≤ most_
   -- the marks of the state before are closed, but for the key that leaks
   pub leak_closed : ClosedBut entries p
   leak_closed q o h x =
-      let at-q = key_at q x.outer x.outer_kind in
-      let at-o = key_at o x.inner x.inner_kind in
-      let outer-reached = marked_reached s x.outer.0 (sym (mark_at q _ at-q) ∙ h) in
-      ⊎_elim (λ r. inl (mark_at o _ at-o ∙ reached_marked s r))
+      let at_q = key_at q x.outer x.outer_kind in
+      let at_o = key_at o x.inner x.inner_kind in
+      let outer_reached = marked_reached s x.outer.0 (sym (mark_at q _ at_q) ∙ h) in
+      ⊎_elim (λ r. inl (mark_at o _ at_o ∙ reached_marked s r))
       (λ (e : x.inner.0 ≡ leak.leaked).
-      inr (sound.counted.shape.once at-o (leak.leaked_at ∙ ap (λ (n : ℕ). some (key n)) (sym e))))
-      (leak.seals_old x.inner.0 x.outer.0 (opened_seal x) outer-reached)
+      inr (sound.counted.shape.once at_o (leak.leaked_at ∙ ap (λ (n : ℕ). some (key n)) (sym e))))
+      (leak.seals_old x.inner.0 x.outer.0 (opened_seal x) outer_reached)
 
   -- what the leak leads to is reached in the next state
   leak_reaches : {q : ℕ} → Leak entries p q → (k : ℕ) → get_elem? s'.now.table q ≡ some (key k) → Reaches s' k
@@ -126,7 +126,7 @@ module _ {s s' : State} (sound : Sound s') (room : length s'.now.table ≤ most_
       let same : leak.leaked ≡ k = cc in
       subst (Reaches s') same leak.leaked_reached
   leak_reaches (leads {q = q} {p = o} l x) k e =
-      let at-o = key_at o x.inner x.inner_kind in
+      let at_o = key_at o x.inner x.inner_kind in
       let same : x.inner.0 ≡ k = cc in
       subst (Reaches s') same (under_key (opened_seal x) (leak_reaches l x.outer.0 (key_at q x.outer x.outer_kind)))
 

@@ -81,9 +81,9 @@ module _ {t : Token} {s : State} (shows : Shows t s) where
       bool_cases (ltb i most_terms) (λ e. shows.entries_shown i (ltb-true i most_terms e))
       (λ e.
       let past : most_terms ≤ i = ltb-false i most_terms e in
-      let none-there : get_elem? s.now.table i ≡ none = none_past s.now.table i (omega (arith, shows.room)) in
+      let none_there : get_elem? s.now.table i ≡ none = none_past s.now.table i (omega (arith, shows.room)) in
       get_or-eq_default t.table.entries blank_entry (omega (arith, shows.entries_length))
-      ∙ sym (ap (entry_for s) none-there))
+      ∙ sym (ap (entry_for s) none_there))
 
   -- each entry's three parts
   parts : (i : ℕ) → get_or t.table.entries i blank_entry ≡

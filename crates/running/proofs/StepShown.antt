@@ -46,8 +46,8 @@ record StepMakes (p : Policy) (s : State) (c : Command) (t : Token) (d : Decisio
 
 -- a number is 0 or not
 zero_or : {C : Type 0} (n : ℕ) → (n ≡ 0 → C) → ((m : ℕ) → n ≡ suc m → C) → C
-zero_or zero at-0 above = at-0 refl
-zero_or (suc n) at-0 above = above n refl
+zero_or zero at_0 above = at_0 refl
+zero_or (suc n) at_0 above = above n refl
 
 module _ {p : Policy} {s : State} {c : Command} {t : Token} {d : Decision} (reach : Reachable p s) (shows : Shows t s)
     (by : Decides p s c d) where
@@ -119,8 +119,8 @@ blank_code : (entries : List Entry) (s : State) (i : ℕ) → get_or entries i b
     → code_of (get_or entries i blank_entry).term ≡ 0
 unfolding entry_of entry_for code_of
 blank_code entries s i e past =
-    let none-there : get_elem? s.now.table i ≡ none = past_none s.now.table i past in
-    rw e (rw none-there refl)
+    let none_there : get_elem? s.now.table i ≡ none = past_none s.now.table i past in
+    rw e (rw none_there refl)
 
 pub findable : {t : Token} {s : State} → Shows t s → Findable t.links.heads t.links.chain t.links.codes
 findable {t} {s} shows =
@@ -141,7 +141,7 @@ findable {t} {s} shows =
     }
 
 module _ {token : Token} {policy : ℕ} {command : Stored} {seen : View} {d : Decision}
-    (sees : seen ≡ view_of token.table token.hands token.links.codes command) (decides-so : d ≡ decided policy command seen)
+    (sees : seen ≡ view_of token.table token.hands token.links.codes command) (decides_so : d ≡ decided policy command seen)
     (low : policy ≤ 2) where
   -- what the code decides is what the rules decide, of each state that the token comes from
   makes : (p : Policy) (s : State) (c : Command) → ComesFrom token policy p s → Holdable c → command ≡ stored_command c → StepMakes p s c token d
@@ -149,7 +149,7 @@ module _ {token : Token} {policy : ℕ} {command : Stored} {seen : View} {d : De
       let same : read_policy policy ≡ p = ap read_policy (sym (comes.this_policy low)) ∙ policy_read p in
       let by = decides (sound comes.reachable) comes.shown policy same c holdable in
       let is : d ≡ decided policy (stored_command c) (view_of token.table token.hands token.links.codes (stored_command c)) =
-      decides-so ∙ ap (decided policy command) sees
+      decides_so ∙ ap (decided policy command) sees
       ∙ ap (λ (x : Stored). decided policy x (view_of token.table token.hands token.links.codes x)) e in
       step_makes comes.reachable comes.shown (subst (Decides p s c) (sym is) by)
 

@@ -146,8 +146,8 @@ stored_inside t at e grown OwnData room h same = rw same room.few_terms
 stored_inside t at e grown (NewSeal k p leaks) room h same = rw same room.for_term.few_terms
 stored_inside t at e grown (Know p) room h same = rw same h
 
-module _ (t : Token) (h : ℕ) {slot : Slot} (read-slot : ReadSlot t.hands h slot) (at : ℕ) {e : Entry}
-    (read-entry : ReadEntry t.table at e) (put : SlotPut) (grown : EntryPut) where
+module _ (t : Token) (h : ℕ) {slot : Slot} (read_slot : ReadSlot t.hands h slot) (at : ℕ) {e : Entry}
+    (read_entry : ReadEntry t.table at e) (put : SlotPut) (grown : EntryPut) where
   -- what is known of the two stores
   abbrev Puts : Change → Type 0
   Puts change =
@@ -159,20 +159,20 @@ module _ (t : Token) (h : ℕ) {slot : Slot} (read-slot : ReadSlot t.hands h slo
       → leak_of change ≡ No
       → Applied t change (record { table = stored_table t.table grown; links = links; hands = stored_hands t.hands put })
   unfolding Applied entry_stored links_stored leak_of
-  stored_applied Nothing (s, g) bound none = rw (table_back t at read-entry grown g, hands_back t h read-slot put s, bound) refl
+  stored_applied Nothing (s, g) bound none = rw (table_back t at read_entry grown g, hands_back t h read_slot put s, bound) refl
   stored_applied (Bind n x) (s, g) bound none =
-      record { of_table = table_back t at read-entry grown g; of_links = bound; of_hands = hands_set t put s }
+      record { of_table = table_back t at read_entry grown g; of_links = bound; of_hands = hands_set t put s }
   stored_applied (Release n) (s, g) bound none =
-      record { of_table = table_back t at read-entry grown g; of_links = bound; of_hands = hands_set t put s }
+      record { of_table = table_back t at read_entry grown g; of_links = bound; of_hands = hands_set t put s }
   stored_applied (NewKey n f) (s, g) bound none =
       record { of_table = ap (stored_table t.table) g; of_links = bound; of_hands = hands_set t put s }
   stored_applied OwnKey (s, g) bound none =
-      record { of_table = ap (stored_table t.table) g; of_links = bound; of_hands = hands_back t h read-slot put s }
+      record { of_table = ap (stored_table t.table) g; of_links = bound; of_hands = hands_back t h read_slot put s }
   stored_applied OwnData (s, g) bound none =
-      record { of_table = ap (stored_table t.table) g; of_links = bound; of_hands = hands_back t h read-slot put s }
+      record { of_table = ap (stored_table t.table) g; of_links = bound; of_hands = hands_back t h read_slot put s }
   stored_applied (NewSeal k p true) (s, g) bound none = absurd (no_leak (sym none))
   stored_applied (NewSeal k p false) (s, g) bound none =
-      record { of_table = ap (stored_table t.table) g; of_links = bound; of_hands = hands_back t h read-slot put s }
+      record { of_table = ap (stored_table t.table) g; of_links = bound; of_hands = hands_back t h read_slot put s }
   stored_applied (Know p) (s, g) bound none = absurd (no_leak (sym none))
 
   -- where term p leaks: its leak can be followed, and the change is made by that
@@ -190,7 +190,7 @@ module _ (t : Token) (h : ℕ) {slot : Slot} (read-slot : ReadSlot t.hands h slo
         can_follow (ap (stored_table t.table) g) bound (same_leak leak) room.followable
     stored_followable (NewSeal k q false) (s, g) bound leak room = absurd (no_leak leak)
     stored_followable (Know q) (s, g) bound leak room =
-        can_follow (table_back t at read-entry grown g) bound (same_leak leak) room.followable
+        can_follow (table_back t at read_entry grown g) bound (same_leak leak) room.followable
 
     pub stored_followed : (change : Change) → Puts change → links ≡ links_stored change t.links t.table.terms
         → leak_of change ≡ Of p → {followed : Table} → TableFollowed (stored_table t.table grown) p.0 followed
@@ -206,12 +206,12 @@ module _ (t : Token) (h : ℕ) {slot : Slot} (read-slot : ReadSlot t.hands h slo
         record {
           of_table = of_leak (ap (stored_table t.table) g) (same_leak leak) follow;
           of_links = bound;
-          of_hands = hands_back t h read-slot put s;
+          of_hands = hands_back t h read_slot put s;
         }
     stored_followed (NewSeal k q false) (s, g) bound leak follow = absurd (no_leak leak)
     stored_followed (Know q) (s, g) bound leak {followed} follow =
         record {
-          of_table = of_leak (table_back t at read-entry grown g) (same_leak leak) follow;
+          of_table = of_leak (table_back t at read_entry grown g) (same_leak leak) follow;
           of_links = bound;
-          of_hands = hands_back t h read-slot put s;
+          of_hands = hands_back t h read_slot put s;
         }

@@ -102,9 +102,9 @@ module _ (b : List ℕ) (bytes : Bytes b) where
   unfolding read_command readers number body_bytes parts_bytes part_bytes body body_length body_lengths bytes_from
   stated =
       let no_part : Each Fits [] = each_nil Fits in
-      let at-0 = two_back b 0 bytes in
+      let at_0 = two_back b 0 bytes in
       let at_1 = two_back b 1 bytes in
-      let at-2 = two_back b 2 bytes in
+      let at_2 = two_back b 2 bytes in
       by_number
       (λ n. Stated n b (read_command n b))
       (record { numbered = refl; its_bytes = refl; holdable = next_flags 0 no_part })
@@ -116,7 +116,7 @@ module _ (b : List ℕ) (bytes : Bytes b) where
       (record { numbered = refl; its_bytes = refl; holdable = next_handle 0 no_part })
       (record { numbered = refl; its_bytes = refl; holdable = no_part })
       (record { numbered = refl; its_bytes = refl; holdable = no_part })
-      (record { numbered = refl; its_bytes = rw (at-0, at-2); holdable = next_term 0 (next_term 2 no_part) })
+      (record { numbered = refl; its_bytes = rw (at_0, at_2); holdable = next_term 0 (next_term 2 no_part) })
 
   -- .. whose body is the first bytes, as many as the table of body lengths says, where there are so many
   pub body_taken : (n : ℕ) → known_number n ≡ true → body_length n ≤ length b

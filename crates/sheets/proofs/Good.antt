@@ -62,8 +62,8 @@ begins p cs =
     let table = contents_length (bodies_begin (length cs)) cs in
     let size = entry_length * length cs in
     let entries = contents (bodies_begin (length cs)) cs in
-    let past-table = drop_at entries (bodies cs) size table in
-    let behind : drop (bodies_begin (length cs)) s ≡ bodies cs = sym (drop-drop size header_length s) ∙ past-table in
+    let past_table = drop_at entries (bodies cs) size table in
+    let behind : drop (bodies_begin (length cs)) s ≡ bodies cs = sym (drop-drop size header_length s) ∙ past_table in
     record {
       has_header = omega arith;
       policy = refl;
@@ -156,9 +156,9 @@ unfolding sheet_bytes two count bodies_end
 walked_sheet s bytes f rest w holdable =
     let n : count s ≡ length rest = sym w.counted ∙ zero-add (length rest) in
     let policy = policy_written (byte_at s 0) f.header.policy_below in
-    let with-bodies = ap (λ (r : List ℕ). contents (bodies_begin (count s)) rest ++ r) w.in_bodies in
+    let with_bodies = ap (λ (r : List ℕ). contents (bodies_begin (count s)) rest ++ r) w.in_bodies in
     let counted = ap (λ (k : ℕ). contents (bodies_begin k) rest ++ bodies rest) n in
-    let behind = w.table ∙ with-bodies ∙ counted in
+    let behind = w.table ∙ with_bodies ∙ counted in
     record {
       few = rw (← n) f.header.few;
       holdable = holdable;

@@ -12,7 +12,7 @@ use Rattle.rules.specs.Known.{KnownList}
 use Rattle.rules.specs.State.{State, fresh}
 use Rattle.rules.proofs.Steps.{run_unique}
 use Rattle.rules.proofs.SoundKept.{sound}
-use Rattle.rules.proofs.Computed.{has_run as run-made}
+use Rattle.rules.proofs.Computed.{has_run as run_made}
 use Rattle.rules.proofs.KnownLists.{known_list_unique, known_of_is}
 use Rattle.sheets.specs.Bytes.{Bytes, byte_at}
 use Rattle.sheets.specs.Sheets.{Sheet}
@@ -25,7 +25,7 @@ use Rattle.sheets.proofs.Good.{sheet_good, good_sheet, one_reading}
 replies_or : (s : List ℕ) → Bytes s → (o : Option ℕ) → first_fault s ≡ o → Replies s (reply_or o s)
 unfolding reply_or run_reply
 replies_or s bytes none e =
-    let run = run-made (read_policy (byte_at s 0)) (read_commands s (count s)) in
+    let run = run_made (read_policy (byte_at s 0)) (read_commands s (count s)) in
     has_run (good_sheet s bytes e) run (known_of_is (sound (record { commands = read_commands s (count s); said = _; run = run })))
 replies_or s bytes (some place) e = is_malformed e
 

@@ -39,11 +39,11 @@ search_or {known} j k true e s = a_link (record {
   others_in = λ x h. Memᴰ.tail h;
   shorter = refl;
 })
-search_or {known} {links} j k false e (no_link none-known) = no_link none_here
+search_or {known} {links} j k false e (no_link none_known) = no_link none_here
   where
     none_here : (i o : ℕ) → i under o ∈ ((j under k) ∷ links) → o ∈ known → ⊥
     none_here i o (Memᴰ.head q) h = let p : k ≡ o = cc in true≢false (sym (in_is_in (Memᴰ.cast p h)) ∙ e)
-    none_here i o (Memᴰ.tail m) h = none-known i o m h
+    none_here i o (Memᴰ.tail m) h = none_known i o m h
 search_or {known} {links} j k false e (a_link {found = found} f) = a_link (record {
   outer = f.outer;
   outer_in = f.outer_in;

@@ -35,7 +35,7 @@ follow_followed (suc turns) known links h = go (find known links) (searched know
         ((k : List ℕ) (l : List Link) → length l ≤ turns → Followed k l (follow turns k l)) →
         Followed known links (elim r as (λ x. List ℕ)
         [ none ↦ known | some found ↦ follow turns (found.inner ∷ known) found.others ])
-    go none (no_link none-known) ih = done none-known
+    go none (no_link none_known) ih = done none_known
     go (some found) (a_link f) ih =
         let shorter : length links ≡ suc (length found.others) = f.shorter in
         turn f (ih (found.inner ∷ known) found.others (omega arith))

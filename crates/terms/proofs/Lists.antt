@@ -21,8 +21,8 @@ abbrev pub ◌⊆◌ : {A : Type 0} → List A → List A → Type 0
 
 -- a test either holds or fails, and each case has the equation
 pub bool_cases {ℓ} : {C : Type ℓ} (b : Bool) → (b ≡ true → C) → (b ≡ false → C) → C
-bool_cases true yes-case no-case = yes-case refl
-bool_cases false yes-case no-case = no-case refl
+bool_cases true yes_case no_case = yes_case refl
+bool_cases false yes_case no_case = no_case refl
 
 -- one of two tests holds: the first, or the second
 or_cases : (a b : Bool) → (a || b) ≡ true → (a ≡ true) ⊎ (b ≡ true)

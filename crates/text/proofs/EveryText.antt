@@ -13,7 +13,7 @@ use Rattle.rules.specs.State.{fresh}
 use Rattle.rules.specs.Computing.{said_by, end_of, known_of}
 use Rattle.rules.proofs.Named.{both}
 use Rattle.rules.proofs.SoundKept.{sound}
-use Rattle.rules.proofs.Computed.{has_run as run-made}
+use Rattle.rules.proofs.Computed.{has_run as run_made}
 use Rattle.rules.proofs.KnownLists.{known_of_is}
 use Rattle.sheets.specs.Bytes.{Bytes, byte_at}
 use Rattle.sheets.specs.Faults.{count, first_fault}
@@ -37,7 +37,7 @@ text_or (some place) s = malformed_text place
 prints_or : (s : List ℕ) → Bytes s → (o : Option ℕ) → first_fault s ≡ o → Prints s (text_or o s)
 unfolding text_or run_text_of
 prints_or s bytes none e =
-    let run = run-made (read_policy (byte_at s 0)) (read_commands s (count s)) in
+    let run = run_made (read_policy (byte_at s 0)) (read_commands s (count s)) in
     has_run (good_sheet s bytes e) run (known_of_is (sound (record { commands = read_commands s (count s); said = _; run = run })))
 prints_or s bytes (some place) e = is_malformed e
 

@@ -28,16 +28,16 @@ pub over_next : (k : ℕ) (keys out : List ℕ) (at : ℕ) → at + 2 ≤ length
     ++ over (keys_bytes keys) (drop (at + 2) (set (set out at (k / 256)) (at + 1) (k % 256)))
 unfolding over keys_bytes two
 over_next k keys out at h =
-    let two-on : at + 2 ≡ suc (suc at) = omega arith in
+    let two_on : at + 2 ≡ suc (suc at) = omega arith in
     let inside : at < length out = omega arith in
-    let next-inside : suc at < length (set out at (k / 256)) = simp length-set (omega arith) in
+    let next_inside : suc at < length (set out at (k / 256)) = simp length-set (omega arith) in
     let n = length (keys_bytes keys) in
     let far : at + suc (suc n) ≡ suc (suc at) + n = omega arith in
     let behind : drop (suc (suc n)) (drop at out) ≡ drop n (drop (suc (suc at)) out) =
     drop-drop (suc (suc n)) at out ∙ ap (λ (m : ℕ). drop m out) far ∙ sym (drop-drop n (suc (suc at)) out) in
     let past : at < suc (suc at) = omega arith in
     let next_past : suc at < suc (suc at) = omega arith in
-    rw (add-one, two-on, behind, take-suc-set _ (suc at) _ next-inside, take-suc-set out at _ inside)
+    rw (add-one, two_on, behind, take-suc-set _ (suc at) _ next_inside, take-suc-set out at _ inside)
     (simp (append_assoc, drop-set-lt))
 
 -- the first i entries' known keys are written, and `at` is the place behind them

@@ -75,7 +75,7 @@ module _ {t : Token} {s : State} (sound : Sound s) (shown : Shows t s) where
 
   -- a number that no command created is no key's
   pub no_origin : (k : ℕ) → length s.now.origins ≤ k → origin_in t.table.entries k ≡ NoKey
-  no_origin k not-created =
+  no_origin k not_created =
       origin_none t.table.entries k
       (λ i e. omega (arith, sound.counted.keys_counted (at_in s.now.table i (key_at shown i k e))))
 

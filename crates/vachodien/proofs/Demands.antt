@@ -22,10 +22,10 @@ use Rattle.rules.specs.Runs.{Answer, number_in, Run, ends, Reachable}
 use Rattle.rules.specs.Known.{Known, IsCompromised, KnownList}
 use Rattle.rules.proofs.FirstRefusal.{NoneApplies, FirstRefusal}
 use Rattle.rules.proofs.Steps.{answer_in_table, refused_leaves, done_steps}
-use Rattle.rules.proofs.Steps.{refused_exactly as by-first-refusal, done_exactly as by-no-refusal}
+use Rattle.rules.proofs.Steps.{refused_exactly as by_first_refusal, done_exactly as by_no_refusal}
 use Rattle.rules.proofs.Prefixes.{one_answer_each}
 use Rattle.rules.proofs.SoundKept.{sound}
-use Rattle.rules.proofs.Computed.{has_run as run-made}
+use Rattle.rules.proofs.Computed.{has_run as run_made}
 use Rattle.rules.proofs.KnownLists.{known_of_is}
 use Rattle.rules.proofs.KnownCompromised.{stp_known, stp+_known}
 use Rattle.rules.proofs.NoOwnHandle.{no_own_handle}
@@ -37,9 +37,9 @@ use Rattle.sheets.specs.Calls.{Called, answer_number, over, call}
 use Rattle.sheets.specs.Reading.{reply, read_policy, read_commands}
 use Rattle.sheets.proofs.Places.{FirstFault, first_fault_some}
 use Rattle.sheets.proofs.Good.{good_sheet}
-use Rattle.sheets.proofs.Reports.{report_length, report_unique as report-tells}
+use Rattle.sheets.proofs.Reports.{report_length, report_unique as report_tells}
 use Rattle.sheets.proofs.Calls.{call_fits, call_short, call_malformed, call_length, call_behind, number_tells}
-use Rattle.sheets.proofs.Replied.{replies, called_unique, malformed_not_run as no-sheet-of-commands}
+use Rattle.sheets.proofs.Replied.{replies, called_unique, malformed_not_run as no_sheet_of_commands}
 use Rattle.vachodien.specs.Replied.{CalledOn}
 use Rattle.vachodien.proofs.EachCommand.{Stepped, each_command}
 use Rattle.vachodien.proofs.Rests.{report_below, place_below}
@@ -61,7 +61,7 @@ report of = report_bytes of.said of.known
 -- a sheet without a fault has a run
 pub good_runs : (s : List ℕ) → Bytes s → first_fault s ≡ none → (p : Policy) × RunOf s p
 good_runs s bytes good =
-    let run = run-made (read_policy (byte_at s 0)) (read_commands s (count s)) in (
+    let run = run_made (read_policy (byte_at s 0)) (read_commands s (count s)) in (
       read_policy (byte_at s 0),
       record {
         commands = read_commands s (count s);
@@ -109,7 +109,7 @@ pub malformed_named : {s before after : List ℕ} {r place : ℕ} → CalledOn s
 malformed_named {before = before} {place = place} called e = both (call_malformed place before) (by_reply called (is_malformed e))
 
 pub malformed_not_run : {s : List ℕ} {p : Policy} {place : ℕ} → first_fault s ≡ some place → RunOf s p → ⊥
-malformed_not_run e of = no-sheet-of-commands e of.sheet
+malformed_not_run e of = no_sheet_of_commands e of.sheet
 
 module _ {s : List ℕ} {p : Policy} (of : RunOf s p) where
   replied : Replies s (reported of.said of.known)
@@ -229,10 +229,10 @@ module _ {s : List ℕ} {p : Policy} (of : RunOf s p) (i : ℕ) {c : Command} (n
   -- other than 0 exactly where n is the smallest number of the table whose test applies
   pub refused_exactly : (n : ℕ) → ¬ (n ≡ 0)
       → (command.answered.answer ≡ n) ↔ FirstRefusal (refusals p command.step.held command.before.now c) n
-  refused_exactly = by-first-refusal command.step
+  refused_exactly = by_first_refusal command.step
 
   pub done_exactly : (command.answered.answer ≡ 0) ↔ NoneApplies (refusals p command.step.held command.before.now c)
-  done_exactly = by-no-refusal command.step
+  done_exactly = by_no_refusal command.step
 
   -- ".. and otherwise answers as they say": the value is the number of what the command answers, and the state is the one after it
   pub done_answers : command.answered.answer ≡ 0
@@ -243,7 +243,7 @@ module _ {s : List ℕ} {p : Policy} (of : RunOf s p) (i : ℕ) {c : Command} (n
 -- no other run has the same report: the bytes of a report tell the answers and the known keys
 pub report_told : {s s' : List ℕ} {p p' : Policy} (of : RunOf s p) (of' : RunOf s' p') → report of ≡ report of'
     → (of.said ≡ of'.said) × (of.known ≡ of'.known)
-report_told of of' e = report-tells of.said of'.said of.known of'.known e
+report_told of of' e = report_tells of.said of'.said of.known of'.known e
 
 -- Demand 3. "From a fresh token, under one policy, after any run of commands, the list names each key the caller can work out, once,
 -- ascending, and no other": the keys of the report are the known list of the state at the end

@@ -115,15 +115,15 @@ module _ (n : ℕ) (records : List ℕ) (t : Token) (room : 3 * n ≤ length rec
   unfolding left_report
   report_whole before m e h first e1 back e2 second e3 list listed e4 =
       let counts : first ≡ over (two n ++ two (length known)) before = e1 ∙ ap (λ (k : ℕ). over (two n ++ two k) before) e in
-      let after-records : second ≡ over front before =
+      let after_records : second ≡ over front before =
       e3 ∙ over_lent (two n ++ two (length known)) (take (3 * n) records) before 4 first back counts_long counts e2 in
-      let same-long : length second ≡ length before =
-      ap length after-records ∙ over_length front before (omega (arith, front_long, h)) in
+      let same_long : length second ≡ length before =
+      ap length after_records ∙ over_length front before (omega (arith, front_long, h)) in
       let lent = take (length second - (4 + 3 * n)) (drop (4 + 3 * n) second) in
-      let room-left : 2 * length known ≤ length lent = omega (arith, lent_length second (4 + 3 * n), same-long, h, e) in
-      let fits : leb (2 * length known) (length lent) ≡ true = le-leb (2 * length known) (length lent) room-left in
-      let list-is : list ≡ over (keys_bytes known) lent = e4.written ∙ ap (λ (b : Bool). written_as b known lent) fits in
-      let whole = over_lent front (keys_bytes known) before (4 + 3 * n) second list front_long after-records list-is in
+      let room_left : 2 * length known ≤ length lent = omega (arith, lent_length second (4 + 3 * n), same_long, h, e) in
+      let fits : leb (2 * length known) (length lent) ≡ true = le-leb (2 * length known) (length lent) room_left in
+      let list_is : list ≡ over (keys_bytes known) lent = e4.written ∙ ap (λ (b : Bool). written_as b known lent) fits in
+      let whole = over_lent front (keys_bytes known) before (4 + 3 * n) second list front_long after_records list_is in
       let long : length (left_report n records t) ≤ length before = omega (arith, left_length, e, h) in
       let has_room : leb (length (left_report n records t)) (length before) ≡ true =
       le-leb (length (left_report n records t)) (length before) long in

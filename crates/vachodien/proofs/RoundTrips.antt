@@ -28,7 +28,7 @@ use Rattle.reader.specs.declared.Read.TheVariants.{Entry, NoEntry}
 use Rattle.reader.specs.Reader.{checked, checked_number, body_at, entry_at}
 use Rattle.reader.proofs.GoodEntries.{checked_good, good_body, good_entry, reads_all}
 use Rattle.writer.specs.declared.Written.{Written}
-use Rattle.writer.specs.declared.Written.TheVariants.{Sheet as Written-sheet, Malformed as Unholdable, Short as NoRoom}
+use Rattle.writer.specs.declared.Written.TheVariants.{Sheet as WrittenSheet, Malformed as Unholdable, Short as NoRoom}
 use Rattle.writer.specs.Writer.{record_length, handed_number, handed_length, handed_body, handed_commands}
 use Rattle.writer.specs.Writer.{first_unholdable, Wrote, wrote, written_number}
 use Rattle.writer.proofs.Handed.{all_held, handed_count, handed_command, handed_numbered}
@@ -52,9 +52,9 @@ record_at handed (suc n) i h =
 
 -- what was written: `long` bytes at the front of the buffer
 module _ (policy n : ℕ) (handed before : List ℕ) (bytes : Bytes handed) {long : ℕ} {after : List ℕ}
-    (written : wrote policy n handed before ≡ record { answer = Written-sheet long; buffer = after }) where
+    (written : wrote policy n handed before ≡ record { answer = WrittenSheet long; buffer = after }) where
   all_holdable : first_unholdable policy n handed ≡ none
-  all_holdable = ((exactly policy n handed before (Written-sheet long) after).0 written).0
+  all_holdable = ((exactly policy n handed before (WrittenSheet long) after).0 written).0
 
   -- it is the sheet of the commands that were handed over
   pub written_is_sheet : Sheet (take long after) (read_policy policy) (handed_commands handed n)
@@ -89,11 +89,11 @@ same_good : {policy n policy' n' : ℕ} → Good policy n ≡ Good policy' n' �
 same_good e = (cc, cc)
 
 pub no_sheet_shared : (policy n : ℕ) (handed before : List ℕ) → Bytes handed → {long : ℕ} {after : List ℕ}
-    → wrote policy n handed before ≡ record { answer = Written-sheet long; buffer = after }
+    → wrote policy n handed before ≡ record { answer = WrittenSheet long; buffer = after }
     → (policy' n' : ℕ) (handed' before' : List ℕ)
     → Bytes handed'
     → {long' : ℕ} {after' : List ℕ}
-    → wrote policy' n' handed' before' ≡ record { answer = Written-sheet long'; buffer = after' }
+    → wrote policy' n' handed' before' ≡ record { answer = WrittenSheet long'; buffer = after' }
     → take long after ≡ take long' after'
     → (policy ≡ policy') × (n ≡ n') × (handed_commands handed n ≡ handed_commands handed' n')
 no_sheet_shared policy n handed before bytes w policy' n' handed' before' bytes' w' same =
@@ -140,7 +140,7 @@ module _ (s : List ℕ) (good : first_fault s ≡ none) (handed : List ℕ) (i :
 module _ (s : List ℕ) (bytes : Bytes s) {policy n : ℕ} (accepted : checked s ≡ Good policy n) where
   -- .. whose entries are handed over again is written as the same bytes
   pub written_again : (handed : List ℕ) → ((i : ℕ) → i < n → HandsOn s handed i) → (before : List ℕ) → length s ≤ length before
-      → wrote policy n handed before ≡ record { answer = Written-sheet (length s); buffer = over s before }
+      → wrote policy n handed before ≡ record { answer = WrittenSheet (length s); buffer = over s before }
   written_again handed hands before room =
       let g = (checked_good s policy n).0 accepted in
       let again : (i : ℕ) → i < count s → Hands s handed i =
@@ -155,15 +155,15 @@ module _ (s : List ℕ) (bytes : Bytes s) {policy n : ℕ} (accepted : checked s
   -- no accepted sheet is lost: some records are written as it
   pub not_lost : (handed : List ℕ) × Bytes handed
       × ((before : List ℕ) → length s ≤ length before
-      → wrote policy n handed before ≡ record { answer = Written-sheet (length s); buffer = over s before })
+      → wrote policy n handed before ≡ record { answer = WrittenSheet (length s); buffer = over s before })
   not_lost =
       let g = (checked_good s policy n).0 accepted in
       rw (← g.its_policy, ← g.its_count) (none_lost s bytes g.no_fault)
 
 -- Of the calls from C: a number below 65,536 is the length of a sheet that was written
-sheet_told : (w : Written) (long : ℕ) → long < 65536 → answer_number 0 long ≡ written_number w → w ≡ Written-sheet long
+sheet_told : (w : Written) (long : ℕ) → long < 65536 → answer_number 0 long ≡ written_number w → w ≡ WrittenSheet long
 unfolding written_number answer_number
-sheet_told (Written-sheet l) long h e = let same : l ≡ long = omega arith in ap Written-sheet same
+sheet_told (WrittenSheet l) long h e = let same : l ≡ long = omega arith in ap WrittenSheet same
 sheet_told (Unholdable place) long h e = absurd (omega arith)
 sheet_told NoRoom long h e = absurd (omega arith)
 
@@ -173,7 +173,7 @@ same_wrote w e f = λ i. record { answer = e i; buffer = sym f i }
 
 pub call_wrote : (policy n : ℕ) (handed before after : List ℕ) (long : ℕ) → long < 65536
     → SheetWritten policy n handed before after (answer_number 0 long)
-    → wrote policy n handed before ≡ record { answer = Written-sheet long; buffer = after }
+    → wrote policy n handed before ≡ record { answer = WrittenSheet long; buffer = after }
 call_wrote policy n handed before after long h called =
     same_wrote (wrote policy n handed before) (sheet_told (wrote policy n handed before).answer long h called.number) called.buffer
 

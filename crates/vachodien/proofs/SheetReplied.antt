@@ -8,7 +8,7 @@ use mathlib.Core.List.{List, ◌++◌}
 use lib.Dec.{leb}
 use lib.ListN.{length, take}
 use Rattle.sheets.specs.Bytes.{two}
-use Rattle.sheets.specs.Reports.{malformed, reported, is_malformed, has_run as ran-to-its-end, records_bytes, keys_bytes, report_bytes}
+use Rattle.sheets.specs.Reports.{malformed, reported, is_malformed, has_run as ran_to_its_end, records_bytes, keys_bytes, report_bytes}
 use Rattle.sheets.specs.Calls.{answer_number, over, report_into, call}
 use Rattle.sheets.proofs.Reports.{records_length}
 use Rattle.sheets.proofs.Calls.{over_front}
@@ -63,7 +63,7 @@ module _ {s start records : List ℕ} {r : Ran} (ran : RanSheet s start records 
         let report = report_bytes (has_run ran e).said (marked_keys r.token.table.entries) in
         record {
           the_reply = reported (has_run ran e).said (marked_keys r.token.table.entries);
-          replies = ran-to-its-end (has_run ran e).sheet (has_run ran e).run (known_told ran e);
+          replies = ran_to_its_end (has_run ran e).sheet (has_run ran e).run (known_told ran e);
           is =
               into_is (leb (length report) (length before)) report before x after number
               (into.answered ∙ ap (λ (w : List ℕ). reported_as (leb (length w) (length before)) (length w)) report_is)

@@ -109,9 +109,9 @@ module _ (n : ℕ) (handed before : List ℕ) (i at : ℕ) (out : List ℕ) (all
       (take at out ++ (back ++ drop (length out - at) (drop at out)))
   copying_next bytes h body back same e =
       let held = all.each i h in
-      let so-many = bodies (handed_commands handed i) in
+      let so_many = bodies (handed_commands handed i) in
       let next = bodies_next handed bytes i held in
-      let lent = over_lent so-many body before at out back (sym so_far.its_place) so_far.written e in
+      let lent = over_lent so_many body before at out back (sym so_far.its_place) so_far.written e in
       record {
         in_range = omega arith;
         its_place = rw add-one (omega (arith, so_far.its_place, held.its_length, bodies_next_length handed bytes i held));

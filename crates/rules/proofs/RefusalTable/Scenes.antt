@@ -103,7 +103,7 @@ low_terms =
     ∷ key 1  -- 2, key_1
     ∷ key 2  -- 3, own_key
     ∷ seal 0 (key 1)  -- 4, key_1_under_0
-    ∷ seal 0 (key 0)  -- 5, key-0-under-0
+    ∷ seal 0 (key 0)  -- 5, key_0_under_0
     ∷ seal 0 (item 0)  -- 6, item_under_0
     ∷ seal 2 (key 2)  -- 7, own_under_own
     ∷ []

@@ -1,6 +1,6 @@
 //! Makes the broken copies of the independent engine that tests/broken.rs tries the comparison on: its source files as they
-//! are, with one edit of `broken/` applied to each copy. An edit whose old text does not stand in its file exactly once
-//! stops the build, so that no copy is right by accident.
+//! are, with one edit of `broken/` applied to each copy. An edit of another file, or whose old text does not stand in its file
+//! exactly once, stops the build, so that no copy is right by accident.
 
 use std::path::{Path, PathBuf};
 use std::{env, fs};
@@ -41,6 +41,10 @@ fn changes(text: &str) -> Vec<Change> {
 
 /// The engine's files as modules of one file, with the edit applied.
 fn copy(source: &Path, edit: &str, changes: &[Change]) -> String {
+    for Change { file, .. } in changes {
+        let is_copied = FILES.iter().any(|name| format!("{name}.rs") == *file);
+        assert!(is_copied, "{edit}: {file} is none of the engine's files");
+    }
     let mut whole = String::new();
     for file in FILES {
         let path = source.join(format!("{file}.rs"));

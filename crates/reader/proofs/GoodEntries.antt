@@ -9,15 +9,15 @@ use mathlib.Core.Bool.{true}
 use mathlib.Core.List.{List, [], ◌∷◌, ◌++◌}
 use mathlib.Core.Option.{Option, none, some}
 use lib.ListN.{get_elem?, length, take, drop, length-append, length-take, length-drop}
-use lib.Seq.{get_or-take}
 use borrow.Author.Tests.{eq-eqb}
 use Rattle.terms.proofs.Lists.{at_append, at_end, at_below}
 use Rattle.rules.specs.Templates.{Policy}
 use Rattle.rules.specs.Commands.{Command, GENERATE, WRAP, UNWRAP, ENCRYPT, DECRYPT, CORRUPT, DESTROY, SEAL, number}
-use Rattle.sheets.specs.Bytes.{byte_at, two_at}
+use Rattle.sheets.specs.Bytes.{byte_at}
 use Rattle.sheets.specs.Sheets.{policy_number, most_commands, bodies_begin, Sheet}
 use Rattle.sheets.specs.Faults.{body_lengths, known_number, body_length, count, entry_number, bodies_end, first_fault}
 use Rattle.sheets.specs.Reading.{readers, read_command, read_commands}
+use Rattle.sheets.proofs.Bytes.{byte_front, two_front}
 use Rattle.sheets.proofs.Each.{each_drop}
 use Rattle.sheets.proofs.Bodies.{by_number, stated}
 use Rattle.sheets.proofs.Places.{first_fault_some}
@@ -78,29 +78,21 @@ same_unwrap a b c = cc
 
 -- a command is read from its body as from the body and what follows
 module _ (b : List ℕ) where
-  byte_front : (k i : ℕ) → i < k → byte_at (take k b) i ≡ byte_at b i
-  unfolding byte_at
-  byte_front k i h = get_or-take k b i 0 h
-
-  two_front : (k i : ℕ) → i + 1 < k → two_at (take k b) i ≡ two_at b i
-  unfolding two_at
-  two_front k i h = rw (byte_front k i (omega arith), byte_front k (i + 1) h)
-
   read_front : (n : ℕ) → known_number n ≡ true → read_command n (take (body_length n) b) ≡ read_command n b
   unfolding read_command readers body_length body_lengths
   read_front =
       by_number
       (λ n. read_command n (take (body_length n) b) ≡ read_command n b)
-      (ap GENERATE (byte_front 1 0 (omega arith)))
-      (ap₂ WRAP (byte_front 2 0 (omega arith)) (byte_front 2 1 (omega arith)))
-      (same_unwrap (byte_front 4 0 (omega arith)) (two_front 4 1 (omega arith)) (byte_front 4 3 (omega arith)))
-      (ap₂ ENCRYPT (byte_front 3 0 (omega arith)) (two_front 3 1 (omega arith)))
-      (ap₂ DECRYPT (byte_front 3 0 (omega arith)) (two_front 3 1 (omega arith)))
-      (ap CORRUPT (byte_front 1 0 (omega arith)))
-      (ap DESTROY (byte_front 1 0 (omega arith)))
+      (ap GENERATE (byte_front b 1 0 (omega arith)))
+      (ap₂ WRAP (byte_front b 2 0 (omega arith)) (byte_front b 2 1 (omega arith)))
+      (same_unwrap (byte_front b 4 0 (omega arith)) (two_front b 4 1 (omega arith)) (byte_front b 4 3 (omega arith)))
+      (ap₂ ENCRYPT (byte_front b 3 0 (omega arith)) (two_front b 3 1 (omega arith)))
+      (ap₂ DECRYPT (byte_front b 3 0 (omega arith)) (two_front b 3 1 (omega arith)))
+      (ap CORRUPT (byte_front b 1 0 (omega arith)))
+      (ap DESTROY (byte_front b 1 0 (omega arith)))
       refl
       refl
-      (ap₂ SEAL (two_front 4 0 (omega arith)) (two_front 4 2 (omega arith)))
+      (ap₂ SEAL (two_front b 4 0 (omega arith)) (two_front b 4 2 (omega arith)))
 
 -- of a number and as many bytes as its body has, the command that they read as is stated
 parsed_known : (n : ℕ) (body : List ℕ) → known_number n ≡ true → length body ≡ body_length n

@@ -1,15 +1,19 @@
 -- What is known of a command that is done: each test of document 01's table of refusals says no. A fact is asked for by its
 -- name and never by its place in the order of asking. Rests on the definitions alone.
-use Prim.Native.Nat.{ℕ, suc}
-use mathlib.Core.Path.{◌≡◌, refl}
-use mathlib.Core.Bool.{Bool, true, false, ◌&&◌}
+use Prim.Native.Nat.{ℕ, suc, ◌<◌}
+use mathlib.Core.Path.{◌≡◌, refl, sym, ap, ◌∙◌}
+use mathlib.Core.Bool.{Bool, true, false, not, ◌&&◌}
 use mathlib.Core.List.{List, ◌∷◌}
 use native.Mathlib.Omega.{arith}
-use Rattle.terms.specs.Lists.{some_of}
+use lib.ListN.{length}
+use borrow.Author.Tests.{leb-false}
+use Rattle.terms.specs.Lists.{◌∈◌, some_of}
+use Rattle.terms.specs.Terms.{Term, listed}
+use Rattle.terms.proofs.Lists.{some_of_in}
 use Rattle.rules.specs.Templates.{Policy}
 use Rattle.rules.specs.Commands.{Command, body}
-use Rattle.rules.specs.State.{Now, all_live, table_full}
-use Rattle.rules.specs.Changes.{all_changes}
+use Rattle.rules.specs.State.{Now, all_live, table_full, most_terms}
+use Rattle.rules.specs.Changes.{enters, all_changes}
 use Rattle.rules.specs.Refusals.{Refusal, ◌if◌, refusals, first, bad_flags, not_live, no_term, not_held, asks_for, not_granted}
 use Rattle.rules.specs.Refusals.{needs_handle, needs, missing, wrong_kind, no_keys_encrypted, encrypts_key, enters_new}
 
@@ -55,3 +59,16 @@ done p held now c e0 =
       handle_free = t10;
       room = (first_passed _ _ _ e10).0;
     }
+
+-- a done command that enters a new term has room for it
+pub room_for : {p : Policy} {held : ℕ → Bool} {now : Now} {c : Command} → Done p held now c → (m : Term) →
+    enters m ∈ all_changes now c → listed now.table m ≡ false → length now.table < most_terms
+unfolding enters_new table_full
+room_for {now = now} {c = c} d m there new =
+    leb-false most_terms (length now.table)
+    (first (table_full now) (some_of (enters_new now) (all_changes now c)) d.room
+    (some_of_in (enters_new now) there (ap not new)))
+  where
+    first : (a b : Bool) → (a && b) ≡ false → b ≡ true → a ≡ false
+    first true b e f = sym f ∙ e
+    first false b e f = refl

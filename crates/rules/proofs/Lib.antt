@@ -7,6 +7,7 @@ pub mod Named
 pub mod NewHandle
 pub mod Steps
 pub mod Prefixes
+pub mod RefusedLeftOut
 pub mod Sound
 pub mod ShapeKept
 pub mod SoundChanges
@@ -20,6 +21,7 @@ pub mod Beside
 pub mod KeyOrder
 pub mod NamedHeld
 pub mod Handles
+pub mod Limits
 pub mod Births
 pub mod Rights
 pub mod Explained
@@ -28,5 +30,6 @@ pub mod KnownCompromised
 pub mod Generated
 pub mod NoOwnHandle
 pub mod Opened
+pub mod WhatHasPassed
 pub mod PlainDiffers
 pub mod RefusalTable

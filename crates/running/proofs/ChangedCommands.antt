@@ -15,7 +15,8 @@ use Rattle.rules.specs.State.{State, dead, live, generated, own, is_live, term_a
 use Rattle.rules.specs.State.{new_handle, new_key}
 use Rattle.rules.specs.Changes.{after}
 use Rattle.rules.specs.Runs.{Judge}
-use Rattle.rules.proofs.Done.{Done}
+use Rattle.rules.proofs.Limits.{live_below}
+use Rattle.rules.proofs.Done.{Done, room_for}
 use Rattle.rules.proofs.Named.{generates, wraps_named, unwraps_named, encrypts_named, decrypts_named, corrupts_named}
 use Rattle.rules.proofs.Named.{destroys_named, seals_named}
 use Rattle.rules.proofs.NamedHeld.{held_term}
@@ -35,7 +36,7 @@ use Rattle.running.proofs.ShownTable.{snoc_extends}
 use Rattle.running.proofs.ChangedKinds.{changed_hands}
 use Rattle.running.proofs.ChangedWorks.{Works, term_room, hand_room}
 use Rattle.running.proofs.ChangedGiven.{gift_works, seal_works}
-use Rattle.running.proofs.ChangedDone.{after_opened, room_for, live_below, held_leaks, wrap_leaks, generate_makes}
+use Rattle.running.proofs.ChangedDone.{after_opened, held_leaks, wrap_leaks, generate_makes}
 use Rattle.running.proofs.ChangedDone.{own_key_makes, own_data_makes}
 use Rattle.running.proofs.ChangedMade.{not_listed, made_table, made_unmarked, item_made}
 use Rattle.running.proofs.ChangedMade.{key_made}

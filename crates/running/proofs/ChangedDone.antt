@@ -1,24 +1,18 @@
 -- What a done command brings to its change: room for a new term, a live handle's number that is a handle's, whether its seal
 -- leaks a key, and what it makes. Rests on the rules crate's Done and Named.
-use Prim.Native.Nat.{ℕ, ◌≤◌, ◌<◌}
+use Prim.Native.Nat.{ℕ}
 use native.Mathlib.Omega.{arith}
-use mathlib.Core.Path.{◌≡◌, refl, sym, ap, subst, ◌∙◌}
+use mathlib.Core.Path.{◌≡◌, refl, sym, subst}
 use mathlib.Core.Bool.{Bool, true, false, not, ◌&&◌, true≢false}
-use lib.Dec.{ltb}
-use lib.ListN.{length, get_or, get_or-eq_default}
-use borrow.Author.Tests.{leb-false, ltb-true, ltb-false, not-true, not-false}
-use Rattle.terms.specs.Lists.{◌∈◌, some_of}
-use Rattle.terms.specs.Terms.{Term, item, key, seal, listed}
+use borrow.Author.Tests.{not-true, not-false}
+use Rattle.terms.specs.Lists.{◌∈◌}
+use Rattle.terms.specs.Terms.{Term, item, key, seal}
 use Rattle.terms.specs.WorkingOut.{Held}
-use Rattle.terms.proofs.Lists.{bool_cases, some_of_in}
-use Rattle.rules.specs.Templates.{Policy}
-use Rattle.rules.specs.Commands.{Command, GENERATE, OWN_KEY, OWN_DATA}
-use Rattle.rules.specs.State.{State, Now, dead, live, slot, new_key, table_full, most_terms, most_handles}
-use Rattle.rules.specs.Changes.{enters, answers, changes, giving, all_changes, change_now, change_past, all_of, after}
-use Rattle.rules.specs.Refusals.{enters_new}
-use Rattle.rules.proofs.Done.{Done}
+use Rattle.rules.specs.Commands.{GENERATE, OWN_KEY, OWN_DATA}
+use Rattle.rules.specs.State.{State, new_key}
+use Rattle.rules.specs.Changes.{answers, changes, giving, all_changes, change_now, change_past, all_of, after}
 use Rattle.rules.proofs.Judging.{known_reached}
-use Rattle.rules.proofs.Named.{Live, both}
+use Rattle.rules.proofs.Named.{both}
 use Rattle.rules.proofs.Sound.{Sound}
 use Rattle.running.proofs.ChangeFor.{held_in}
 use Rattle.running.proofs.MarksKept.{Reaches, mark, marked_reached, reached_marked}
@@ -29,30 +23,6 @@ use Rattle.running.proofs.ChangedMade.{Makes, adds_none, adds_first}
 unfoldable pub after_opened : Unit {0}
 unfolding answers changes giving all_changes change_now change_past all_of after
 after_opened = tt
-
--- a done command that enters a new term has room for it
-pub room_for : {p : Policy} {held : ℕ → Bool} {now : Now} {c : Command} → Done p held now c → (m : Term) →
-    enters m ∈ all_changes now c → listed now.table m ≡ false → length now.table < most_terms
-unfolding enters_new table_full
-room_for {now = now} {c = c} d m there new =
-    leb-false most_terms (length now.table)
-    (first (table_full now) (some_of (enters_new now) (all_changes now c)) d.room
-    (some_of_in (enters_new now) there (ap not new)))
-  where
-    first : (a b : Bool) → (a && b) ≡ false → b ≡ true → a ≡ false
-    first true b e f = sym f ∙ e
-    first false b e f = refl
-
--- a live handle's number is a handle's
-pub live_below : {s : State} {h : ℕ} → Sound s → Live s.now h → h < most_handles
-unfolding slot
-live_below {s} {h} i l =
-    bool_cases (ltb h most_handles) (λ e. ltb-true h most_handles e)
-    (λ e.
-    let past : most_handles ≤ h = ltb-false h most_handles e in
-    let is_dead : get_or s.now.handles h dead ≡ dead = get_or-eq_default s.now.handles dead (omega (arith, i.handled.slots)) in
-    let is_alive : get_or s.now.handles h dead ≡ live l.key_no l.flags_no = l.is_slot in
-    let z : ◌≡◌ {A = ℕ} 0 1 = cc in absurd (omega arith))
 
 -- a seal of a held term leaks no key
 pub held_leaks : (s : State) (k : ℕ) (x : Term) → Sound s → Held s.past.own s.past.given x → SealLeaks s k x false

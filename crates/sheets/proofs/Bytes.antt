@@ -7,11 +7,20 @@ use native.Mathlib.Omega.{arith}
 use mathlib.Core.Path.{◌≡◌, refl, sym, ap, ◌∙◌}
 use mathlib.Core.List.{List, [], ◌∷◌, ◌++◌}
 use lib.ListN.{length, take, drop}
-use lib.Seq.{get_or-drop, drop-append_seam, drop-cons, take_at, drop-drop}
+use lib.Seq.{get_or-take, get_or-drop, drop-append_seam, drop-cons, take_at, drop-drop}
 use Rattle.sheets.specs.Bytes.{Bytes, two, byte_at, two_at}
 use Rattle.sheets.proofs.Each.{each_nil, each_cons, each_head, each_tail}
 
--- a byte, and a two-byte number, is read behind the first k bytes as in the whole string
+-- a byte, and a two-byte number, is read among the first k bytes as in the whole string
+pub byte_front : (s : List ℕ) (k i : ℕ) → i < k → byte_at (take k s) i ≡ byte_at s i
+unfolding byte_at
+byte_front s k i h = get_or-take k s i 0 h
+
+pub two_front : (s : List ℕ) (k i : ℕ) → i + 1 < k → two_at (take k s) i ≡ two_at s i
+unfolding two_at
+two_front s k i h = rw (byte_front s k i (omega arith), byte_front s k (i + 1) h)
+
+-- .. and behind them
 pub byte_behind : (k : ℕ) (s : List ℕ) (i : ℕ) → byte_at (drop k s) i ≡ byte_at s (k + i)
 unfolding byte_at
 byte_behind k s i = get_or-drop k s i 0

@@ -10,4 +10,12 @@ pub mod Sizes
 pub mod Reports
 pub mod Calls
 pub mod Replied
+pub mod OneCommand
+pub mod Longest
+pub mod ReportPlaces
 pub mod Opened
+pub mod Hex
+pub mod SheetExample
+pub mod DamagedSheets
+pub mod ReportExample
+pub mod CallExamples

@@ -3,6 +3,7 @@
 pub mod Bytes
 pub mod Sheets
 pub mod Faults
+pub mod OneCommand
 pub mod Reports
 pub mod Calls
 pub mod Reading

@@ -96,6 +96,10 @@ module _ {A : Type 0} where
   in_set (z ∷ l) (suc n) y (Memᴰ.head q) = inr (Memᴰ.head q)
   in_set (z ∷ l) (suc n) y (Memᴰ.tail m) = ⊎_elim inl (λ h. inr (Memᴰ.tail h)) (in_set l n y m)
 
+  -- what holds of all in a list, and of what is written over one place, holds of all in the new list
+  pub all_set : (P : A → Type 0) {l : List A} (n : ℕ) (y : A) → ((x : A) → x ∈ l → P x) → P y → (x : A) → x ∈ set l n y → P x
+  all_set P {l} n y all new x m = ⊎_elim (λ (e : x ≡ y). rw e new) (all x) (in_set l n y m)
+
   -- what stands at a place stands there still when more is appended
   pub at_append : {x : A} (l r : List A) (n : ℕ) → get_elem? l n ≡ some x → get_elem? (l ++ r) n ≡ some x
   at_append [] r n e = cc

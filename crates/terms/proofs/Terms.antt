@@ -1,6 +1,6 @@
 -- Laws of terms and of a token's table: sameness is equality, a listed term is in the table, a term's number is its place,
 -- and entering adds the term once and moves nothing. Rests on specs/Terms.antt.
-use Prim.Native.Nat.{suc}
+use Prim.Native.Nat.{ℕ, suc}
 use mathlib.Core.Bool.{Bool, true, false, ◌&&◌, false≢true, true≢false}
 use mathlib.Core.List.Memᴰ
 use mathlib.Core.List.{[], ◌∷◌, ◌++◌}
@@ -12,7 +12,7 @@ use lib.Dec.{eqb}
 use lib.ListN.{length, get_elem?}
 use Rattle.terms.specs.Lists.{◌∈◌, some_of}
 use Rattle.terms.specs.Terms.{Term, item, key, seal, same, Table, listed, number_of, enter}
-use Rattle.terms.proofs.Lists.{bool_cases, some_of_true, some_of_in, some_of_false}
+use Rattle.terms.proofs.Lists.{bool_cases, some_of_true, some_of_in, some_of_false, at_append}
 
 -- both of two tests hold
 both : (a b : Bool) → (a && b) ≡ true → (a ≡ true) × (b ≡ true)
@@ -88,6 +88,12 @@ pub in_enter : {x : Term} (table : Table) (m : Term) → x ∈ table → x ∈ e
 in_enter {x} table m h =
     bool_cases (listed table m) (λ (e : listed table m ≡ true). rw (enter_listed table m e) h)
     (λ (e : listed table m ≡ false). rw (enter_new table m e) (Memᴰ.append_left (m ∷ []) h))
+
+-- what has a number keeps it after entering
+pub at_enter : {x : Term} (table : Table) (m : Term) (n : ℕ) → get_elem? table n ≡ some x → get_elem? (enter table m) n ≡ some x
+at_enter table m n h =
+    bool_cases (listed table m) (λ (e : listed table m ≡ true). rw (enter_listed table m e) h)
+    (λ (e : listed table m ≡ false). rw (enter_new table m e) (at_append table (m ∷ []) n h))
 
 -- a term entered is in the table
 pub enter_in : (table : Table) (m : Term) → m ∈ enter table m

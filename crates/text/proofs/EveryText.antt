@@ -26,11 +26,11 @@ use Rattle.text.specs.Text.{word, digits, decimal, line, policy_name, command_na
 use Rattle.text.specs.Text.{command_lines, tally_line, known_line, origin_word, key_line, key_lines}
 use Rattle.text.specs.Text.{report_text, malformed_text, Prints, is_malformed, has_run}
 
-run_text_of : Policy → List Command → List ℕ
+unfoldable pub run_text_of : Policy → List Command → List ℕ
 run_text_of p cs =
     report_text p cs (said_by p fresh cs) (end_of p fresh cs).now.origins (known_of (end_of p fresh cs))
 
-text_or : Option ℕ → List ℕ → List ℕ
+unfoldable pub text_or : Option ℕ → List ℕ → List ℕ
 text_or none s = run_text_of (read_policy (byte_at s 0)) (read_commands s (count s))
 text_or (some place) s = malformed_text place
 
@@ -42,7 +42,7 @@ prints_or s bytes none e =
 prints_or s bytes (some place) e = is_malformed e
 
 -- the text of a byte string
-pub text_of : List ℕ → List ℕ
+unfoldable pub text_of : List ℕ → List ℕ
 text_of s = text_or (first_fault s) s
 
 pub prints : (s : List ℕ) → Bytes s → Prints s (text_of s)

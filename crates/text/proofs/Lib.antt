@@ -13,3 +13,5 @@ pub mod PrintedKeys
 pub mod Printed
 pub mod EveryText
 pub mod TextTold
+pub mod FirstBytes
+pub mod Examples

@@ -103,3 +103,7 @@ pub data Prints (s : List ℕ) : List ℕ → Type 0 where
       → Run p fresh cs said end
       → KnownList end known
       → Prints s (report_text p cs said end.now.origins known)
+
+-- "reads one sheet from standard input, at most its first 32,768 bytes"
+abbrev pub most_read : ℕ
+most_read = 32768

@@ -41,11 +41,14 @@ pub fn all_lengths(seed: u64) -> Result<(), String> {
         .map_err(|what| said("every length", seed, &what, &sheet))
 }
 
-/// A good sheet of this seed, cut short at every byte.
+/// A good sheet of this seed, cut short at every byte: whatever is left out, the table or a body is not wholly there.
 pub fn all_cuts(seed: u64) -> Result<(), String> {
     let sheet = sheets::generated(seed);
     for length in 0..sheet.len() {
-        report("cut short", seed, &sheet[..length])?;
+        let cut = &sheet[..length];
+        if report("cut short", seed, cut)?.number < 12 * 65_536 {
+            return Err(said("cut short", seed, "good all the same", cut));
+        }
     }
     Ok(())
 }
@@ -90,8 +93,9 @@ fn direct_row(row: &[u8], of: &[u64], seen: &mut [usize; 12]) -> Result<(), Stri
     Err(said("direct calls", seed, &what, &bytes))
 }
 
-/// Three byte strings of this seed through the reader: a good sheet, a damaged one, and noise.
-pub fn reader(seed: u64) -> Result<(), String> {
+/// Three byte strings of this seed through the reader: a good sheet, a damaged one, and noise. Gives each answer, 0 or 12.
+pub fn reader(seed: u64) -> Result<Vec<u32>, String> {
+    let mut answers = Vec::new();
     for bytes in [
         sheets::generated(seed),
         sheets::damaged(seed),
@@ -102,11 +106,12 @@ pub fn reader(seed: u64) -> Result<(), String> {
             let what = format!("{is}, expected {was}");
             return Err(said("reader", seed, &what, &bytes));
         }
+        answers.push(was / 65_536);
     }
-    Ok(())
+    Ok(answers)
 }
 
-/// What the writer is handed: most of it can be written.
+/// What the writer is handed: less than half of it can be written.
 struct Handed {
     policy: u8,
     count: u16,
@@ -157,28 +162,30 @@ fn noise(random: &mut Random, seed: u64) -> Handed {
     }
 }
 
-/// Five lists of commands of this seed through the writer, each into buffers of several lengths.
-pub fn writer(seed: u64) -> Result<(), String> {
+/// Five lists of commands of this seed through the writer, each into buffers of several lengths. Gives each answer, 0, 12 or 13.
+pub fn writer(seed: u64) -> Result<Vec<u32>, String> {
     let mut random = Random::new(seed);
     let sheet = sheets::generated(seed);
+    let mut answers = Vec::new();
     for list in 0..5 {
         let handed = match list {
             0 => noise(&mut random, seed),
             _ => handed(&mut random, &sheet),
         };
         let told = written(&mut random, &handed);
-        told.map_err(|what| said("writer", seed, &what, &handed.commands))?;
+        answers.extend(told.map_err(|what| said("writer", seed, &what, &handed.commands))?);
     }
-    Ok(())
+    Ok(answers)
 }
 
-fn written(random: &mut Random, handed: &Handed) -> Result<(), String> {
+fn written(random: &mut Random, handed: &Handed) -> Result<Vec<u32>, String> {
     let (policy, count, commands) = (handed.policy, handed.count, &handed.commands);
     let mut room = vec![0; proved::LONGEST_SHEET];
     let needed = match plain::write(policy, count, commands, &mut room) {
         number if number < 65_536 => number as usize,
         _ => 40,
     };
+    let mut answers = Vec::new();
     for length in [needed + 8, needed, needed - 1, random.below(needed), 0] {
         let mut is = vec![0xA5; length + 16];
         let mut was = is.clone();
@@ -188,6 +195,7 @@ fn written(random: &mut Random, handed: &Handed) -> Result<(), String> {
             let how = format!("policy {policy}, count {count}, {length} bytes lent");
             return Err(format!("{how}: {number}, expected {wanted}"));
         }
+        answers.push(wanted / 65_536);
     }
-    Ok(())
+    Ok(answers)
 }

@@ -45,7 +45,7 @@ pub fn folder() -> PathBuf {
     Path::new(env!("CARGO_MANIFEST_DIR")).join("data")
 }
 
-/// Every exercise, by the names of the files.
+/// Every exercise, by the names of the files; none at all is an error, so that no test goes through nothing.
 pub fn all() -> Result<Vec<Exercise>, String> {
     let mut paths = Vec::new();
     for entry in fs::read_dir(folder()).map_err(|e| e.to_string())? {
@@ -58,7 +58,10 @@ pub fn all() -> Result<Vec<Exercise>, String> {
         let name = path.file_stem().unwrap_or_default().to_string_lossy();
         exercises.extend(read(&name, &text)?);
     }
-    Ok(exercises)
+    match exercises.is_empty() {
+        true => Err(format!("no exercise in {}", folder().display())),
+        false => Ok(exercises),
+    }
 }
 
 /// In which part of an exercise a line stands.
@@ -100,6 +103,7 @@ pub fn read(name: &str, text: &str) -> Result<Vec<Exercise>, String> {
     match part {
         Part::Sheet => Err(format!("{name}: a sheet without an output")),
         _ if !note.trim().is_empty() => Err(format!("{name}: a note without a sheet")),
+        _ if found.is_empty() => Err(format!("{name}: no exercise")),
         _ => Ok(found),
     }
 }

@@ -24,6 +24,7 @@ fn what_is_no_exercise() {
         "sheet\n[00..02\noutput\n",
         "sheet\n00\n",
         "a note alone\n",
+        "",
     ];
     for text in wrong {
         assert!(read("x", text).is_err(), "{text}");

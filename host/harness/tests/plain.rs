@@ -12,17 +12,29 @@ fn check(sheet: &[u8]) -> u32 {
     }
 }
 
+/// Of the answers 0, 12 and 13 each comes often.
+fn often(answers: &[u32], wanted: &[u32]) {
+    for answer in wanted {
+        let count = answers.iter().filter(|&is| is == answer).count();
+        assert!(count > 100, "{answer}: {count} times");
+    }
+}
+
 #[test]
 fn the_same_faults() {
+    let mut answers = Vec::new();
     let sheets = (1..=2_000).flat_map(|seed| [generated(seed), damaged(seed), noise(seed)]);
     for sheet in sheets {
         assert_eq!(plain::check(&sheet), check(&sheet), "{sheet:?}");
+        answers.push(check(&sheet) / 65_536);
     }
+    often(&answers, &[0, 12]);
 }
 
 #[test]
 fn the_same_sheets_written() {
     let mut random = Random::new(1);
+    let mut answers = Vec::new();
     for seed in 1..=2_000 {
         let bytes = generated(seed);
         let sheet = read_sheet(&bytes).expect("a good sheet");
@@ -52,5 +64,7 @@ fn the_same_sheets_written() {
         let count = raw.len() as u16;
         assert_eq!(plain::write(policy, count, &records, &mut two), number);
         assert_eq!(one, two);
+        answers.push(number / 65_536);
     }
+    often(&answers, &[0, 12, 13]);
 }

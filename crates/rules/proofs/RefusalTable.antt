@@ -11,7 +11,7 @@ use Rattle.rules.specs.Commands.{Command}
 use Rattle.rules.specs.Runs.{Answer, step}
 use Rattle.rules.proofs.Opened.{rules_opened}
 use Rattle.rules.proofs.RefusalTable.Scenes.{Scene, state_in, held_in, ◌then◌, small, one_handle_left, all_handles, one_term_left}
-use Rattle.rules.proofs.RefusalTable.Scenes.{all_terms, all_of_both}
+use Rattle.rules.proofs.RefusalTable.Scenes.{all_terms, all_of_both, all_held, nothing_done}
 use Rattle.rules.proofs.RefusalTable.Rows.{Row, row, rows}
 pub mod Scenes
 pub mod Rows
@@ -26,7 +26,8 @@ expected (row policies at c answer value) = map (λ p. record { answer = answer;
 
 -- all rows at once
 pub rows_answered : map said rows ≡ map expected rows
-unfolding rules_opened said expected rows state_in held_in ◌then◌ small one_handle_left all_handles one_term_left all_terms all_of_both
+unfolding rules_opened said expected rows state_in held_in ◌then◌ small all_held nothing_done one_handle_left all_handles one_term_left
+    all_terms all_of_both
 rows_answered = refl
 
 -- two functions that agree over a whole list agree at each thing in it

@@ -9,7 +9,7 @@ use lib.ListN.{replicate}
 use Rattle.terms.specs.Terms.{Table, item, key, seal}
 use Rattle.terms.specs.Lists.{is_in}
 use Rattle.rules.specs.Commands.{Command}
-use Rattle.rules.specs.State.{Slot, dead, live, generated, own, Now, State}
+use Rattle.rules.specs.State.{Slot, dead, live, generated, own, Now, State, fresh}
 use Rattle.rules.specs.Templates.{plain}
 use Rattle.rules.specs.Runs.{step}
 
@@ -129,8 +129,12 @@ item_under_0 = 6
 abbrev pub own_under_own : ℕ
 own_under_own = 7
 
+-- the first number past the end: in the small scene, and where there are 1,024 terms
 abbrev pub no_term : ℕ
 no_term = 8
+
+abbrev pub no_term_1024 : ℕ
+no_term_1024 = 1024
 
 -- data items, from a number on
 unfoldable pub items_from : (number count : ℕ) → Table
@@ -176,3 +180,12 @@ all_terms = scene dead dead dead 1016
 unfoldable pub all_of_both : Scene
 unfolding scene
 all_of_both = scene (live 0 127) (live 0 127) (live 0 127) 1016
+
+-- the small one, with every term held; and a token that has done nothing
+unfoldable pub all_held : Scene
+unfolding small
+all_held = record { now = small.now; unheld = [] }
+
+unfoldable pub nothing_done : Scene
+unfolding fresh
+nothing_done = record { now = fresh.now; unheld = [] }

@@ -11,7 +11,7 @@ import os
 import re
 
 TOKEN = re.compile(r"[^\s(){}\[\];,.\"]+")
-FUNCTION_FILES = ("Proof.antt", "Answers.antt", "Invariants.antt")
+FUNCTION_FILES = ("Proof.antt", "Answers.antt", "Invariants.antt")  # of a function, in a folder of its own below proofs/
 STAYS = {"not-nil"}  # a constructor's law in the library, cited behind a dot
 
 
@@ -21,6 +21,10 @@ def files():
         for name in sorted(names):
             if name.endswith((".antt", ".rt")):
                 yield os.path.join(base, name)
+
+
+def of_function(path):
+    return os.path.basename(path) in FUNCTION_FILES and os.path.basename(os.path.dirname(path)) != "proofs"
 
 
 def bare(text):
@@ -38,11 +42,12 @@ def main():
                 library.update(w for w in re.split(r"[\s,]+", m.group(2)) if w)
     turned = {}
     for path, text in texts.items():
-        if path.endswith(".antt") and not path.endswith(FUNCTION_FILES):
+        if path.endswith(".antt") and not of_function(path):
             for word in TOKEN.findall(bare(text)):
                 if re.search(r"\w-\w", word) and word not in library:
                     turned[word] = word.replace("-", "_")
     turned["Written-sheet"] = "WrittenSheet"
+    turned["entryWith"] = "entry_with"
     clash = False
     for path, text in texts.items():
         by_new = collections.defaultdict(set)

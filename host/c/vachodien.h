@@ -1,7 +1,7 @@
 /*
  * vachodien.h: the proved engine from C.
  *
- * Link with target/staticlib/libvachodien.a, which `rt staticlib vachodien` writes (x86-64, System V calls):
+ * Link with target/staticlib/libvachodien.a, which `./build` writes (x86-64, System V calls):
  *
  *     cc -I host/c program.c target/staticlib/libvachodien.a
  *

@@ -37,28 +37,28 @@ module _ (policy flags : ℕ) (free : Free) (terms : ℕ) where
   abbrev Generate : Decision → Type 0
   Generate r = r ≡ decided_generate policy flags free terms
 
-  pub generate-2 : {r : Decision} → r ≡ refused_with 2 → 128 ≤ flags → Generate r
+  pub generate_2 : {r : Decision} → r ≡ refused_with 2 → 128 ≤ flags → Generate r
   unfolding first
-  generate-2 e f = simp (e, le-leb 128 flags f)
+  generate_2 e f = simp (e, le-leb 128 flags f)
 
   module _ (f : flags < 128) {g : Bool} (eg : g ≡ granted_by policy by_generate flags) where
-    pub generate-5 : {r : Decision} → r ≡ refused_with 5 → not g ≡ true → Generate r
+    pub generate_5 : {r : Decision} → r ≡ refused_with 5 → not g ≡ true → Generate r
     unfolding first
-    generate-5 e ng = simp (e, lt-leb 128 flags f, ← eg, ng)
+    generate_5 e ng = simp (e, lt-leb 128 flags f, ← eg, ng)
 
     module _ (yg : not g ≡ false) where
-      pub generate-10 : {r : Decision} → r ≡ refused_with 10 → free ≡ Full → Generate r
+      pub generate_10 : {r : Decision} → r ≡ refused_with 10 → free ≡ Full → Generate r
       unfolding first
-      generate-10 e u = simp (e, lt-leb 128 flags f, ← eg, yg, u)
+      generate_10 e u = simp (e, lt-leb 128 flags f, ← eg, yg, u)
 
       module _ {n : HandleNo} (at : free ≡ At n) where
-        pub generate-11 : {r : Decision} → r ≡ refused_with 11 → most_terms ≤ terms → Generate r
+        pub generate_11 : {r : Decision} → r ≡ refused_with 11 → most_terms ≤ terms → Generate r
         unfolding first
-        generate-11 e m = simp (e, lt-leb 128 flags f, ← eg, yg, at, le-leb most_terms terms m)
+        generate_11 e m = simp (e, lt-leb 128 flags f, ← eg, yg, at, le-leb most_terms terms m)
 
-        pub generate-0 : {r : Decision} → r ≡ done_with n.0 (NewKey n flags) → terms < most_terms → Generate r
+        pub generate_0 : {r : Decision} → r ≡ done_with n.0 (NewKey n flags) → terms < most_terms → Generate r
         unfolding first
-        generate-0 e m = simp (e, lt-leb 128 flags f, ← eg, yg, at, lt-leb most_terms terms m)
+        generate_0 e m = simp (e, lt-leb 128 flags f, ← eg, yg, at, lt-leb most_terms terms m)
 
 -- the seal that a change enters, where nothing else refuses
 abbrev pub Made : Equal → ℕ → Change → Decision → Type 0
@@ -74,24 +74,24 @@ module _ (a b : Handle) (outer inner : Entry) (equal : Equal) (terms : ℕ) wher
   abbrev Wrap : Decision → Type 0
   Wrap r = r ≡ decided_wrap a b outer inner equal terms
 
-  pub wrap-3 : {r : Decision} → r ≡ refused_with 3 → a ≡ Dead → Wrap r
+  pub wrap_3 : {r : Decision} → r ≡ refused_with 3 → a ≡ Dead → Wrap r
   unfolding first
-  wrap-3 e d = simp (e, d)
+  wrap_3 e d = simp (e, d)
 
   module _ {over : Slot} (la : a ≡ Live over) where
-    pub wrap-3-inner : {r : Decision} → r ≡ refused_with 3 → b ≡ Dead → Wrap r
+    pub wrap_3_inner : {r : Decision} → r ≡ refused_with 3 → b ≡ Dead → Wrap r
     unfolding first
-    wrap-3-inner e d = simp (e, la, d)
+    wrap_3_inner e d = simp (e, la, d)
 
     module _ {under : Slot} (lb : b ≡ Live under) {m : Bool} (em : m ≡ barred over.flags under.flags) where
-      pub wrap-6 : {r : Decision} → r ≡ refused_with 6 → m ≡ true → Wrap r
+      pub wrap_6 : {r : Decision} → r ≡ refused_with 6 → m ≡ true → Wrap r
       unfolding first
-      wrap-6 e nm = simp (e, la, lb, ← em, nm)
+      wrap_6 e nm = simp (e, la, lb, ← em, nm)
 
-      pub wrap-0 : {r : Decision} {l : Bool} → m ≡ false → l ≡ (is_held outer && not (is_held inner)) →
+      pub wrap_0 : {r : Decision} {l : Bool} → m ≡ false → l ≡ (is_held outer && not (is_held inner)) →
           Made equal terms (NewSeal over.key under.term l) r → Wrap r
       unfolding first
-      wrap-0 ym el e = simp (la, lb, ← em, ym, ← el) e
+      wrap_0 ym el e = simp (la, lb, ← em, ym, ← el) e
 
 -- UNWRAP of a term that exists, by a live handle: 5 not granted, 6 for a flag, 7 not held, 8 no key sealed under this key, 10 no
 -- handle free
@@ -100,135 +100,135 @@ module _ (policy flags : ℕ) (payload : Entry) (free : Free) (slot : Slot) (ent
   Unwrap r = r ≡ decided_unwrap policy (Live slot) (There entry) flags payload free
 
   module _ {g : Bool} (eg : g ≡ granted_by policy by_unwrap flags) where
-    pub unwrap-5 : {r : Decision} → r ≡ refused_with 5 → not g ≡ true → Unwrap r
+    pub unwrap_5 : {r : Decision} → r ≡ refused_with 5 → not g ≡ true → Unwrap r
     unfolding first
-    unwrap-5 e ng = simp (e, lt-leb 128 flags f, ← eg, ng)
+    unwrap_5 e ng = simp (e, lt-leb 128 flags f, ← eg, ng)
 
     module _ (yg : not g ≡ false) {m : Bool} (em : m ≡ not (has U slot.flags)) where
-      pub unwrap-6 : {r : Decision} → r ≡ refused_with 6 → m ≡ true → Unwrap r
+      pub unwrap_6 : {r : Decision} → r ≡ refused_with 6 → m ≡ true → Unwrap r
       unfolding first
-      unwrap-6 e nm = simp (e, lt-leb 128 flags f, ← eg, yg, ← em, nm)
+      unwrap_6 e nm = simp (e, lt-leb 128 flags f, ← eg, yg, ← em, nm)
 
       module _ (ym : m ≡ false) where
-        pub unwrap-7 : {r : Decision} → r ≡ refused_with 7 → not (is_held entry) ≡ true → Unwrap r
+        pub unwrap_7 : {r : Decision} → r ≡ refused_with 7 → not (is_held entry) ≡ true → Unwrap r
         unfolding first
-        unwrap-7 e nh = simp (e, lt-leb 128 flags f, ← eg, yg, ← em, ym, nh)
+        unwrap_7 e nh = simp (e, lt-leb 128 flags f, ← eg, yg, ← em, ym, nh)
 
         module _ (yh : not (is_held entry) ≡ false) {s k b : Bool}
             (es : s ≡ is_sealed_under slot.key entry.term) (ek : k ≡ is_key_entry payload) (eb : b ≡ (s && k)) where
-          pub unwrap-8 : {r : Decision} → r ≡ refused_with 8 → not b ≡ true → Unwrap r
+          pub unwrap_8 : {r : Decision} → r ≡ refused_with 8 → not b ≡ true → Unwrap r
           unfolding first
-          unwrap-8 e nb = simp (e, lt-leb 128 flags f, ← eg, yg, ← em, ym, yh, ← es, ← ek, ← eb, nb)
+          unwrap_8 e nb = simp (e, lt-leb 128 flags f, ← eg, yg, ← em, ym, yh, ← es, ← ek, ← eb, nb)
 
           module _ (yb : not b ≡ false) where
-            pub unwrap-10 : {r : Decision} → r ≡ refused_with 10 → free ≡ Full → Unwrap r
+            pub unwrap_10 : {r : Decision} → r ≡ refused_with 10 → free ≡ Full → Unwrap r
             unfolding first
-            unwrap-10 e u = simp (e, lt-leb 128 flags f, ← eg, yg, ← em, ym, yh, ← es, ← ek, ← eb, yb, u)
+            unwrap_10 e u = simp (e, lt-leb 128 flags f, ← eg, yg, ← em, ym, yh, ← es, ← ek, ← eb, yb, u)
 
-            pub unwrap-0 : {r : Decision} {n : HandleNo} {key : KeyNo} {term : TermNo} → free ≡ At n →
+            pub unwrap_0 : {r : Decision} {n : HandleNo} {key : KeyNo} {term : TermNo} → free ≡ At n →
                 key ≡ key_of payload.term → term ≡ payload_no entry.term →
                 r ≡ done_with n.0 (Bind n (record { key = key; term = term; flags = flags })) → Unwrap r
             unfolding first
-            unwrap-0 at e₁ e₂ e = simp (lt-leb 128 flags f, ← eg, yg, ← em, ym, yh, ← es, ← ek, ← eb, yb, at, e, e₁, e₂)
+            unwrap_0 at e₁ e₂ e = simp (lt-leb 128 flags f, ← eg, yg, ← em, ym, yh, ← es, ← ek, ← eb, yb, at, e, e₁, e₂)
 
 -- ENCRYPT: 3 for the handle, 4 for the term, 6 for a flag, 7 not held, 9 a key under STP+
 module _ (policy : ℕ) (h : Handle) (t : Lookup) (number : TermNo) (equal : Equal) (terms : ℕ) where
   abbrev Encrypt : Decision → Type 0
   Encrypt r = r ≡ decided_encrypt policy h t number equal terms
 
-  pub encrypt-3 : {r : Decision} → r ≡ refused_with 3 → h ≡ Dead → Encrypt r
+  pub encrypt_3 : {r : Decision} → r ≡ refused_with 3 → h ≡ Dead → Encrypt r
   unfolding first
-  encrypt-3 e d = simp (e, d)
+  encrypt_3 e d = simp (e, d)
 
   module _ {slot : Slot} (l : h ≡ Live slot) where
-    pub encrypt-4 : {r : Decision} → r ≡ refused_with 4 → t ≡ Nothing → Encrypt r
+    pub encrypt_4 : {r : Decision} → r ≡ refused_with 4 → t ≡ Nothing → Encrypt r
     unfolding first
-    encrypt-4 e n = simp (e, l, n)
+    encrypt_4 e n = simp (e, l, n)
 
     module _ {entry : Entry} (th : t ≡ There entry) {m : Bool} (em : m ≡ not (has E slot.flags)) where
-      pub encrypt-6 : {r : Decision} → r ≡ refused_with 6 → m ≡ true → Encrypt r
+      pub encrypt_6 : {r : Decision} → r ≡ refused_with 6 → m ≡ true → Encrypt r
       unfolding first
-      encrypt-6 e nm = simp (e, l, th, ← em, nm)
+      encrypt_6 e nm = simp (e, l, th, ← em, nm)
 
       module _ (ym : m ≡ false) where
-        pub encrypt-7 : {r : Decision} → r ≡ refused_with 7 → not (is_held entry) ≡ true → Encrypt r
+        pub encrypt_7 : {r : Decision} → r ≡ refused_with 7 → not (is_held entry) ≡ true → Encrypt r
         unfolding first
-        encrypt-7 e nh = simp (e, l, th, ← em, ym, nh)
+        encrypt_7 e nh = simp (e, l, th, ← em, ym, nh)
 
         module _ (yh : not (is_held entry) ≡ false) {k b : Bool}
             (ek : k ≡ is_key_entry entry) (eb : b ≡ (leb 2 policy && k)) where
-          pub encrypt-9 : {r : Decision} → r ≡ refused_with 9 → b ≡ true → Encrypt r
+          pub encrypt_9 : {r : Decision} → r ≡ refused_with 9 → b ≡ true → Encrypt r
           unfolding first
-          encrypt-9 e nb = simp (e, l, th, ← em, ym, yh, ← ek, bars_keys, ← eb, nb)
+          encrypt_9 e nb = simp (e, l, th, ← em, ym, yh, ← ek, bars_keys, ← eb, nb)
 
-          pub encrypt-0 : {r : Decision} → b ≡ false → Made equal terms (NewSeal slot.key number false) r → Encrypt r
+          pub encrypt_0 : {r : Decision} → b ≡ false → Made equal terms (NewSeal slot.key number false) r → Encrypt r
           unfolding first
-          encrypt-0 yb e = simp (l, th, ← em, ym, yh, ← ek, bars_keys, ← eb, yb) e
+          encrypt_0 yb e = simp (l, th, ← em, ym, yh, ← ek, bars_keys, ← eb, yb) e
 
 -- DECRYPT: 3 for the handle, 4 for the term, 6 for a flag, 7 not held, 8 not sealed under this key
 module _ (h : Handle) (t : Lookup) (payload : Entry) where
   abbrev Decrypt : Decision → Type 0
   Decrypt r = r ≡ decided_decrypt h t payload
 
-  pub decrypt-3 : {r : Decision} → r ≡ refused_with 3 → h ≡ Dead → Decrypt r
+  pub decrypt_3 : {r : Decision} → r ≡ refused_with 3 → h ≡ Dead → Decrypt r
   unfolding first
-  decrypt-3 e d = simp (e, d)
+  decrypt_3 e d = simp (e, d)
 
   module _ {slot : Slot} (l : h ≡ Live slot) where
-    pub decrypt-4 : {r : Decision} → r ≡ refused_with 4 → t ≡ Nothing → Decrypt r
+    pub decrypt_4 : {r : Decision} → r ≡ refused_with 4 → t ≡ Nothing → Decrypt r
     unfolding first
-    decrypt-4 e n = simp (e, l, n)
+    decrypt_4 e n = simp (e, l, n)
 
     module _ {entry : Entry} (th : t ≡ There entry) {m : Bool} (em : m ≡ not (has D slot.flags)) where
-      pub decrypt-6 : {r : Decision} → r ≡ refused_with 6 → m ≡ true → Decrypt r
+      pub decrypt_6 : {r : Decision} → r ≡ refused_with 6 → m ≡ true → Decrypt r
       unfolding first
-      decrypt-6 e nm = simp (e, l, th, ← em, nm)
+      decrypt_6 e nm = simp (e, l, th, ← em, nm)
 
       module _ (ym : m ≡ false) where
-        pub decrypt-7 : {r : Decision} → r ≡ refused_with 7 → not (is_held entry) ≡ true → Decrypt r
+        pub decrypt_7 : {r : Decision} → r ≡ refused_with 7 → not (is_held entry) ≡ true → Decrypt r
         unfolding first
-        decrypt-7 e nh = simp (e, l, th, ← em, ym, nh)
+        decrypt_7 e nh = simp (e, l, th, ← em, ym, nh)
 
         module _ (yh : not (is_held entry) ≡ false) {s : Bool} (es : s ≡ is_sealed_under slot.key entry.term) where
-          pub decrypt-8 : {r : Decision} → r ≡ refused_with 8 → not s ≡ true → Decrypt r
+          pub decrypt_8 : {r : Decision} → r ≡ refused_with 8 → not s ≡ true → Decrypt r
           unfolding first
-          decrypt-8 e ns = simp (e, l, th, ← em, ym, yh, ← es, ns)
+          decrypt_8 e ns = simp (e, l, th, ← em, ym, yh, ← es, ns)
 
-          pub decrypt-0 : {r : Decision} {p : TermNo} {change : Change} → not s ≡ false →
+          pub decrypt_0 : {r : Decision} {p : TermNo} {change : Change} → not s ≡ false →
               p ≡ payload_no entry.term → change ≡ learning p payload → r ≡ done_with p.0 change → Decrypt r
           unfolding first
-          decrypt-0 ys ep el e = simp (l, th, ← em, ym, yh, ← es, ys, e, el, ep)
+          decrypt_0 ys ep el e = simp (l, th, ← em, ym, yh, ← es, ys, e, el, ep)
 
 -- SEAL: 4 for the key or the term, 7 for the key or the term, 8 no key
 module _ (k t : Lookup) (number : TermNo) (equal : Equal) (terms : ℕ) where
   abbrev Seals : Decision → Type 0
   Seals r = r ≡ decided_seal k t number equal terms
 
-  pub seal-4 : {r : Decision} → r ≡ refused_with 4 → k ≡ Nothing → Seals r
+  pub seal_4 : {r : Decision} → r ≡ refused_with 4 → k ≡ Nothing → Seals r
   unfolding first
-  seal-4 e n = simp (e, n)
+  seal_4 e n = simp (e, n)
 
   module _ {key : Entry} (kh : k ≡ There key) where
-    pub seal-4-term : {r : Decision} → r ≡ refused_with 4 → t ≡ Nothing → Seals r
+    pub seal_4_term : {r : Decision} → r ≡ refused_with 4 → t ≡ Nothing → Seals r
     unfolding first
-    seal-4-term e n = simp (e, kh, n)
+    seal_4_term e n = simp (e, kh, n)
 
     module _ {entry : Entry} (th : t ≡ There entry) where
-      pub seal-7 : {r : Decision} → r ≡ refused_with 7 → not (is_held key) ≡ true → Seals r
+      pub seal_7 : {r : Decision} → r ≡ refused_with 7 → not (is_held key) ≡ true → Seals r
       unfolding first
-      seal-7 e n = simp (e, kh, th, n)
+      seal_7 e n = simp (e, kh, th, n)
 
       module _ (yk : not (is_held key) ≡ false) where
-        pub seal-7-term : {r : Decision} → r ≡ refused_with 7 → not (is_held entry) ≡ true → Seals r
+        pub seal_7_term : {r : Decision} → r ≡ refused_with 7 → not (is_held entry) ≡ true → Seals r
         unfolding first
-        seal-7-term e n = simp (e, kh, th, yk, n)
+        seal_7_term e n = simp (e, kh, th, yk, n)
 
         module _ (yt : not (is_held entry) ≡ false) {b : Bool} (eb : b ≡ is_key_entry key) where
-          pub seal-8 : {r : Decision} → r ≡ refused_with 8 → not b ≡ true → Seals r
+          pub seal_8 : {r : Decision} → r ≡ refused_with 8 → not b ≡ true → Seals r
           unfolding first
-          seal-8 e nb = simp (e, kh, th, yk, yt, ← eb, nb)
+          seal_8 e nb = simp (e, kh, th, yk, yt, ← eb, nb)
 
-          pub seal-0 : {r : Decision} {n : KeyNo} → not b ≡ false → n ≡ key_of key.term →
+          pub seal_0 : {r : Decision} {n : KeyNo} → not b ≡ false → n ≡ key_of key.term →
               Made equal terms (NewSeal n number false) r → Seals r
           unfolding first
-          seal-0 yb en e = simp (kh, th, yk, yt, ← eb, yb, ← en) e
+          seal_0 yb en e = simp (kh, th, yk, yt, ← eb, yb, ← en) e

@@ -1,7 +1,7 @@
 -- One run worked out by hand, with every command of document 01 done in it: what each answers, what the token is at the end, and
 -- what has passed. A key's number, its term's and its handle's are three numbers wherever one could be taken for another, and no
 -- two lists of the past are alike. (OWN KEY is refused in a full table alone; that a refusal leaves all as it was is said of every
--- command by `refused-leaves`.) Rests on the definitions alone.
+-- command by `refused_leaves`.) Rests on the definitions alone.
 use mathlib.Core.Path.{◌≡◌, refl}
 use mathlib.Core.List.{List, [], ◌∷◌, map}
 use lib.ListN.{replicate}

@@ -28,11 +28,11 @@ pub record Answers (s s' : State) (m : Term) : Type 0 where
 
 module _ {s s' : State} {m : Term} (a : Answers s s' m) where
   -- what is owned was owned; what is given was given, or is the term
-  own-was : {x : Term} → x ∈ s'.past.own → x ∈ s.past.own
-  own-was {x} h = subst (λ (l : List Term). x ∈ l) a.same_own h
+  own_was : {x : Term} → x ∈ s'.past.own → x ∈ s.past.own
+  own_was {x} h = subst (λ (l : List Term). x ∈ l) a.same_own h
 
-  given-was : {x : Term} → x ∈ s'.past.given → (x ≡ m) ⊎ (x ∈ s.past.given)
-  given-was {x} h = Memᴰ.cases_cons (subst (λ (l : List Term). x ∈ l) a.given_more h)
+  given_was : {x : Term} → x ∈ s'.past.given → (x ≡ m) ⊎ (x ∈ s.past.given)
+  given_was {x} h = Memᴰ.cases_cons (subst (λ (l : List Term). x ∈ l) a.given_more h)
 
   -- what is reached stays reached
   still : (table : (x : Term) → x ∈ s.now.table → x ∈ s'.now.table) → (k : ℕ) → Reaches s k → Reaches s' k
@@ -51,20 +51,20 @@ module _ {s s' : State} {m : Term} (a : Answers s s' m) where
   -- the term was there, and held if it is a key: nothing changes
   module _ (there : m ∈ s.now.table) where
     -- the table holds what it held
-    in-old : {x : Term} → x ∈ s'.now.table → x ∈ s.now.table
-    in-old {x} h = subst (λ (l : Table). x ∈ l) (same_table there) h
+    in_old : {x : Term} → x ∈ s'.now.table → x ∈ s.now.table
+    in_old {x} h = subst (λ (l : Table). x ∈ l) (same_table there) h
 
-    in-new : (x : Term) → x ∈ s.now.table → x ∈ s'.now.table
-    in-new x h = subst (λ (l : Table). x ∈ l) (sym (same_table there)) h
+    in_new : (x : Term) → x ∈ s.now.table → x ∈ s'.now.table
+    in_new x h = subst (λ (l : Table). x ∈ l) (sym (same_table there)) h
 
     -- every key keeps its mark
     pub again_marks : ((k : ℕ) → m ≡ key k → Reaches s k) → SameMarks s s'
     again_marks known k h =
-        same_mark s s' k (still in-new k)
+        same_mark s s' k (still in_new k)
         (reached_within (record {
-          own_within = λ j o. own_key (own-was o);
-          given_within = λ j g. ⊎_elim (λ e. known j (sym e)) (λ o. given_key o) (given-was g);
-          seals_within = λ j o h r. under_key (in-old h) r;
+          own_within = λ j o. own_key (own_was o);
+          given_within = λ j g. ⊎_elim (λ e. known j (sym e)) (λ o. given_key o) (given_was g);
+          seals_within = λ j o h r. under_key (in_old h) r;
         }))
 
     -- a key that is given leaks
@@ -77,10 +77,10 @@ module _ {s s' : State} {m : Term} (a : Answers s s' m) where
               (number_at there ∙ ap {B = Option Term} some e);
           not_marked = unmarked;
           leaked_reached = given_key (subst (λ (l : List Term). key j ∈ l) (sym a.given_more) (Memᴰ.head (sym e)));
-          still_reached = still in-new;
-          own_old = λ k h. own_key (own-was h);
-          given_old = λ k h. ⊎_elim (λ (q : key k ≡ m). inr (same k q)) (λ g. inl (given_key g)) (given-was h);
-          seals_old = λ i k h r. inl (under_key (in-old h) r);
+          still_reached = still in_new;
+          own_old = λ k h. own_key (own_was h);
+          given_old = λ k h. ⊎_elim (λ (q : key k ≡ m). inr (same k q)) (λ g. inl (given_key g)) (given_was h);
+          seals_old = λ i k h r. inl (under_key (in_old h) r);
         }
       where
         same : (k : ℕ) → key k ≡ m → k ≡ j
@@ -89,11 +89,11 @@ module _ {s s' : State} {m : Term} (a : Answers s s' m) where
   -- a seal that was not there
   module _ (k : ℕ) (x : Term) (is_seal : m ≡ seal k x) (new : listed s.now.table m ≡ false) where
     -- the table holds what it held, and the seal
-    in-more : (y : Term) → y ∈ s.now.table → y ∈ s'.now.table
-    in-more y h = subst (λ (l : Table). y ∈ l) (sym (more_table new)) (Memᴰ.append_left (m ∷ []) h)
+    in_more : (y : Term) → y ∈ s.now.table → y ∈ s'.now.table
+    in_more y h = subst (λ (l : Table). y ∈ l) (sym (more_table new)) (Memᴰ.append_left (m ∷ []) h)
 
-    in-was : {y : Term} → y ∈ s'.now.table → (y ∈ s.now.table) ⊎ (y ≡ m)
-    in-was {y} h =
+    in_was : {y : Term} → y ∈ s'.now.table → (y ∈ s.now.table) ⊎ (y ≡ m)
+    in_was {y} h =
         ⊎_elim inl (λ n. inr (Memᴰ.eq_of_singleton n))
         (Memᴰ.append_cases s.now.table (subst (λ (l : Table). y ∈ l) (more_table new) h))
 
@@ -104,11 +104,11 @@ module _ {s s' : State} {m : Term} (a : Answers s s' m) where
     -- its key is not reached, or its payload is no key or is reached: every key keeps its mark
     pub seal_marks : ((j : ℕ) → x ≡ key j → Reaches s k → Reaches s j) → SameMarks s s'
     seal_marks known n h =
-        same_mark s s' n (still in-more n)
+        same_mark s s' n (still in_more n)
         (reached_within (record {
-          own_within = λ j o. own_key (own-was o);
-          given_within = λ j g. ⊎_elim (λ e. absurd (no_key e)) (λ o. given_key o) (given-was g);
-          seals_within = λ j o h r. ⊎_elim (λ t. under_key t r) (λ e. of_new j o e r) (in-was h);
+          own_within = λ j o. own_key (own_was o);
+          given_within = λ j g. ⊎_elim (λ e. absurd (no_key e)) (λ o. given_key o) (given_was g);
+          seals_within = λ j o h r. ⊎_elim (λ t. under_key t r) (λ e. of_new j o e r) (in_was h);
         }))
       where
         of_new : (j o : ℕ) → seal o (key j) ≡ m → Reaches s o → Reaches s j
@@ -127,11 +127,11 @@ module _ {s s' : State} {m : Term} (a : Answers s s' m) where
               subst (λ (l : Table). get_elem? l (number_of s.now.table x) ≡ some (key j)) (sym (more_table new))
               (at_append s.now.table (m ∷ []) (number_of s.now.table x) (number_at there ∙ ap {B = Option Term} some e));
           not_marked = unmarked;
-          leaked_reached = under_key at_end (still in-more k reached);
-          still_reached = still in-more;
-          own_old = λ n h. own_key (own-was h);
-          given_old = λ n h. ⊎_elim (λ q. absurd (no_key q)) (λ g. inl (given_key g)) (given-was h);
-          seals_old = λ i o h r. ⊎_elim (λ t. inl (under_key t r)) (λ q. inr (of_new i o q)) (in-was h);
+          leaked_reached = under_key at_end (still in_more k reached);
+          still_reached = still in_more;
+          own_old = λ n h. own_key (own_was h);
+          given_old = λ n h. ⊎_elim (λ q. absurd (no_key q)) (λ g. inl (given_key g)) (given_was h);
+          seals_old = λ i o h r. ⊎_elim (λ t. inl (under_key t r)) (λ q. inr (of_new i o q)) (in_was h);
         }
       where
         at_end : seal k (key j) ∈ s'.now.table

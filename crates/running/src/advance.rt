@@ -1,7 +1,7 @@
 // Runs commands on a token where it stands: each is looked at, decided on small values, and its change made by a few stores.
 ghost use Rattle.std.specs.Prelude.{◌≡◌, suc, ◌<◌, ◌≤◌, ◌+◌, ◌*◌, true, false, length};
 ghost use Rattle.rules.specs.State.{most_terms};
-ghost use Rattle.token.specs.Shows.{blank_slot, entry as entryWith};
+ghost use Rattle.token.specs.Shows.{blank_slot, entry as entry_with};
 ghost use Rattle.deciding.specs.Decisions.{decided};
 ghost use Rattle.running.specs.Views.{seen_in};
 ghost use Rattle.running.specs.Stores.{HandPut, SlotStored, entry_stored, leak_of};
@@ -85,7 +85,7 @@ fn slot_put(
 
 // The entry with its marks: held, and the caller's own.
 fn marked(term: Term, held: bool, own: bool) -> Entry
-    ensures { result ≡ entryWith term held own }
+    ensures { result ≡ entry_with term held own }
 {
     Entry {
         term,

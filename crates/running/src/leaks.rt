@@ -1,7 +1,7 @@
 // Following a leak: a key that becomes known opens every seal under it, whatever the order in which they were made, and so on for
 // each key found there. Each key is handled once, from a stack of key numbers.
 ghost use Rattle.std.specs.Prelude.{◌≡◌, true, not, ◌&&◌};
-ghost use Rattle.token.specs.Shows.{entry as entryWith};
+ghost use Rattle.token.specs.Shows.{entry as entry_with};
 ghost use Rattle.shapes.specs.Entries.{is_key_entry, is_held, is_own_entry, key_of};
 ghost use Rattle.running.specs.Leaks.{Followable, kind_at};
 ghost use Rattle.running.specs.Applied.{TableFollowed};
@@ -60,7 +60,7 @@ fn leaks(entry: Entry) -> bool
 
 // The entry, held.
 fn known(entry: Entry) -> Entry
-    ensures { result ≡ entryWith entry.term true (is_own_entry entry) }
+    ensures { result ≡ entry_with entry.term true (is_own_entry entry) }
 {
     let term = entry.term;
     let marks = entry.marks;

@@ -71,7 +71,7 @@ pub record FirstFault (s : List ℕ) (place : ℕ) : Type 0 where
   pub is_fault : fault_at s place ≡ true
   pub none_before : (j : ℕ) → j < place → fault_at s j ≡ false
 
--- `first-fault` names the first place with a fault
+-- `first_fault` names the first place with a fault
 pub first_fault_some : (s : List ℕ) (i : ℕ) → (first_fault s ≡ some i) ↔ FirstFault s i
 unfolding first_fault
 first_fault_some s i = (there, back)

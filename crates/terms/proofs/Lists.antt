@@ -1,5 +1,5 @@
 -- Laws of lists that every other proof uses: of tests over a list, of membership, and of the place at which a thing stands.
--- Rests on specs/Lists.antt (and `is-in` of specs/Following.antt) and on the list libraries.
+-- Rests on specs/Lists.antt (and `is_in` of specs/Following.antt) and on the list libraries.
 use Prim.Native.Nat.{ℕ, zero, suc, ◌<◌, zero-le, suc-le-suc}
 use native.Mathlib.Nat.{not-suc-le-zero, le_of_suc-le-suc}
 use native.Mathlib.Omega.{arith}

@@ -8,7 +8,7 @@ unfoldable pub last : (ℕ → Bool) → (n : ℕ) → ℕ
 last test zero = 0
 last test (suc n) = cond (test n) (suc n) (last test n)
 
--- `chain-of i` is 0 for a number in no chain, and one more than its chain's number for any other
+-- `chain_of i` is 0 for a number in no chain, and one more than its chain's number for any other
 unfoldable pub in_chain : (chain_of : ℕ → ℕ) (c i : ℕ) → Bool
 in_chain chain_of c i = eqb (chain_of i) (suc c)
 

@@ -15,49 +15,49 @@ use Rattle.writer.specs.Parts.{found_as, Ready}
 use Rattle.writer.proofs.Handed.{all_held, asked_most}
 
 -- what was found, from what is told of it
-found-fault : (o : Option ℕ) (long place : ℕ) → found_as o long ≡ Fault place → o ≡ some place
+found_fault : (o : Option ℕ) (long place : ℕ) → found_as o long ≡ Fault place → o ≡ some place
 unfolding found_as
-found-fault none long place e = cc
-found-fault (some i) long place e = cc
+found_fault none long place e = cc
+found_fault (some i) long place e = cc
 
-found-long : (o : Option ℕ) (whole long : ℕ) → found_as o whole ≡ Long long → (o ≡ none) × (long ≡ whole)
+found_long : (o : Option ℕ) (whole long : ℕ) → found_as o whole ≡ Long long → (o ≡ none) × (long ≡ whole)
 unfolding found_as
-found-long none whole long e = (refl, cc)
-found-long (some i) whole long e = (cc, cc)
+found_long none whole long e = (refl, cc)
+found_long (some i) whole long e = (cc, cc)
 
 module _ (policy n : ℕ) (handed : List ℕ) {told : Found}
     (is : told ≡ found_as (first_unholdable policy n handed) (length (asked_sheet policy n handed))) where
   -- what no sheet can hold is answered by its place, and nothing is written
-  pub answers-fault : {place : ℕ} → told ≡ Fault place → (before : List ℕ)
+  pub answers_fault : {place : ℕ} → told ≡ Fault place → (before : List ℕ)
       → wrote policy n handed before ≡ record { answer = Malformed place; buffer = before }
   unfolding wrote wrote_as
-  answers-fault {place} e before = rw (found-fault _ _ place (sym is ∙ e))
+  answers_fault {place} e before = rw (found_fault _ _ place (sym is ∙ e))
 
   module _ {long : ℕ} (e : told ≡ Long long) where
-    nothing-found : (first_unholdable policy n handed ≡ none) × (long ≡ length (asked_sheet policy n handed))
-    nothing-found = found-long _ _ long (sym is ∙ e)
+    nothing_found : (first_unholdable policy n handed ≡ none) × (long ≡ length (asked_sheet policy n handed))
+    nothing_found = found_long _ _ long (sym is ∙ e)
 
-    pub long-most : long ≤ 28675
-    long-most = omega (arith, nothing-found.1, asked_most policy n handed (all_held policy n handed nothing-found.0).1)
+    pub long_most : long ≤ 28675
+    long_most = omega (arith, nothing_found.1, asked_most policy n handed (all_held policy n handed nothing_found.0).1)
 
     -- a sheet that does not fit is answered 13, and nothing is written
-    pub answers-short : (before : List ℕ) → length before < long
+    pub answers_short : (before : List ℕ) → length before < long
         → wrote policy n handed before ≡ record { answer = Short; buffer = before }
     unfolding wrote wrote_as sheet_into
-    answers-short before h =
-        let less : length before < length (asked_sheet policy n handed) = omega (arith, nothing-found.1) in
-        rw (nothing-found.0, lt-leb _ _ less)
+    answers_short before h =
+        let less : length before < length (asked_sheet policy n handed) = omega (arith, nothing_found.1) in
+        rw (nothing_found.0, lt-leb _ _ less)
 
     -- one that fits can be written ..
     pub ready : (before : List ℕ) → long ≤ length before → Ready policy n handed before
     ready before h =
-        let (low, held) = all_held policy n handed nothing-found.0 in
-        record { low = low; held = held; fits = omega (arith, nothing-found.1) }
+        let (low, held) = all_held policy n handed nothing_found.0 in
+        record { low = low; held = held; fits = omega (arith, nothing_found.1) }
 
     -- .. and is written over the front of the buffer
-    pub answers-sheet : (before after : List ℕ) → long ≤ length before → after ≡ over (asked_sheet policy n handed) before
+    pub answers_sheet : (before after : List ℕ) → long ≤ length before → after ≡ over (asked_sheet policy n handed) before
         → wrote policy n handed before ≡ record { answer = Sheet long; buffer = after }
     unfolding wrote wrote_as sheet_into
-    answers-sheet before after h w =
-        let fits : length (asked_sheet policy n handed) ≤ length before = omega (arith, nothing-found.1) in
-        rw (nothing-found.0, le-leb _ _ fits, w, nothing-found.1)
+    answers_sheet before after h w =
+        let fits : length (asked_sheet policy n handed) ≤ length before = omega (arith, nothing_found.1) in
+        rw (nothing_found.0, le-leb _ _ fits, w, nothing_found.1)

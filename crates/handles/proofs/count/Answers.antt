@@ -1,4 +1,4 @@
--- `live::count` counts the live handles: the ones of the four words. Rests on the laws of the words.
+-- `handles::count` counts the live handles: the ones of the four words. Rests on the laws of the words.
 use Rattle.handles.proofs.LiveWordsBits.{count_ones}
 use Rattle.handles.proofs.LiveWordsCode.{array_words}
 use Rattle.handles.proofs.count.Goals as goal

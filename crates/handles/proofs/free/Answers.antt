@@ -1,4 +1,4 @@
--- `live::free` finds the lowest number not live. The loop's invariant: every handle below the word looked at is live.
+-- `handles::free` finds the lowest number not live. The loop's invariant: every handle below the word looked at is live.
 -- Rests on the laws of the words.
 use native.Mathlib.Omega.{arith}
 use Rattle.handles.proofs.LiveWordsCode.{array_words, free_found, word_full, none_free}

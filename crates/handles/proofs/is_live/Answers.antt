@@ -1,4 +1,4 @@
--- `live::is_live` reads a handle's bit. Rests on the laws of the words.
+-- `handles::is_live` reads a handle's bit. Rests on the laws of the words.
 use Rattle.handles.proofs.LiveWordsCode.{bit_read}
 use Rattle.handles.proofs.is_live.Goals as goal
 

@@ -1,4 +1,4 @@
--- `live::set_live` sets a handle's bit and no other. Rests on the laws of the words.
+-- `handles::set_live` sets a handle's bit and no other. Rests on the laws of the words.
 use native.Mathlib.Omega.{arith}
 use Rattle.handles.proofs.LiveWordsCode.{array_words, bit_on}
 use Rattle.handles.proofs.set_live.Goals as goal

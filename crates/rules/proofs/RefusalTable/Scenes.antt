@@ -30,7 +30,7 @@ unfoldable pub ◌then◌ : Scene → Command → Scene
 ◌then◌ at c = record { now = (step plain (held_in at) (state_in at) c).next.now; unheld = at.unheld }
 
 infixl 40 ◌then◌
--- the handles by number: `only-F` carries the flag F alone, `but-F` every flag but F. Four stand for key 1, the others for key 0
+-- the handles by number: `only_F` carries the flag F alone, `but_F` every flag but F. Four stand for key 1, the others for key 0
 unfoldable pub low_handles : (fifth : Slot) → List Slot
 low_handles fifth =
     live 0 127  -- 0, all_flags

@@ -1,4 +1,4 @@
--- `shapes::parse::not_a_call` meets its contract: its tests are those of `not-a-call`, in their order (Parsing). Assumes nothing.
+-- `shapes::parse::not_a_call` meets its contract: its tests are those of `not_a_call`, in their order (Parsing). Assumes nothing.
 use Rattle.shapes.proofs.Parsing.{policy_above, number_unknown, length_tested}
 use Rattle.shapes.proofs.parse.not_a_call.Goals as goal
 

@@ -12,7 +12,8 @@ use Rattle.sheets.specs.Reports.{Reply, malformed, reported, Replies, report_byt
 use Rattle.sheets.specs.Reading.{reply}
 use Rattle.sheets.proofs.Opened.{sheets_opened}
 use Rattle.sheets.proofs.Replied.{replies}
-use Rattle.exercises.specs.Exercises.{hex, Says, answers, refused_12, report, Exercise, exercise, exercises, Holds, IsSo}
+use Rattle.sheets.specs.Hex.{hex}
+use Rattle.exercises.specs.Exercises.{Says, answers, refused_12, report, Exercise, exercise, exercises, Holds, IsSo}
 
 -- hexadecimal digits write bytes
 hex_bytes : (n digits : ℕ) → Bytes (hex n digits)

@@ -1,14 +1,10 @@
 -- Document 01, "Exercises with known outcome": the ten starred exercises, A to J, each as the bytes of its sheet and what the
 -- document says of it. The digits are hexadecimal, two to a byte, grouped as the document groups those of exercise A: policy,
 -- count, the entries, the bodies. Assumes nothing.
-use Rattle.std.specs.Prelude.{ℕ, zero, suc, ◌/◌, ◌%◌, ◌≡◌, List, [], ◌∷◌, ◌++◌}
+use Rattle.std.specs.Prelude.{ℕ, ◌≡◌, List, [], ◌∷◌}
 use Rattle.rules.specs.Runs.{Answer}
+use Rattle.sheets.specs.Hex.{hex}
 use Rattle.sheets.specs.Reports.{malformed, reported, Replies, report_bytes}
-
--- the bytes that hexadecimal digits write, so many of them
-unfoldable pub hex : (bytes digits : ℕ) → List ℕ
-hex zero digits = []
-hex (suc n) digits = hex n (digits / 256) ++ digits % 256 ∷ []
 
 -- what the document says of a sheet: its commands' answers with their values, and the known keys; or 12 with a place; or the
 -- report's bytes

@@ -9,6 +9,9 @@ use crate::{Command, HandleNo, Parsed, TermNo};
 // By command number, from 0, which is no command.
 const LENGTHS: [usize; 11] = [0, 1, 2, 4, 3, 3, 1, 1, 0, 0, 4];
 
+// The greatest policy number, of STP+.
+const MOST_POLICY: u8 = 2;
+
 // A term number: two bytes, big-endian.
 fn term_at(body: &[u8], at: usize) -> TermNo
     requires { at + 1 < length body.now }
@@ -66,7 +69,7 @@ pub fn parse(number: u8, body: &[u8]) -> Parsed
 pub fn not_a_call(policy: u8, number: u8, body: &[u8]) -> bool
     ensures { result ≡ not_a_call policy number body.now }
 {
-    if 2 < policy {
+    if MOST_POLICY < policy {
         return true;
     }
     if !known_number(number) {

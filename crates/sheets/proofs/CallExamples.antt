@@ -5,7 +5,7 @@ use mathlib.Core.List.{List, [], ◌∷◌, map}
 use Rattle.sheets.specs.Bytes.{two}
 use Rattle.sheets.specs.Reports.{Reply, malformed, reported, records_bytes, keys_bytes, report_bytes}
 use Rattle.sheets.specs.Calls.{Called, answer_number, over, report_into, call}
-use Rattle.sheets.proofs.Hex.{hex}
+use Rattle.sheets.specs.Hex.{hex}
 
 -- a reply and a buffer; the number given, and the buffer afterwards
 pub data Row : Type 0 where

@@ -7,7 +7,7 @@ use mathlib.Core.Option.{Option, none, some}
 use lib.ListN.{replicate}
 use Rattle.sheets.specs.Faults.{first_fault}
 use Rattle.sheets.proofs.Opened.{sheets_opened}
-use Rattle.sheets.proofs.Hex.{hex}
+use Rattle.sheets.specs.Hex.{hex}
 use Rattle.sheets.proofs.SheetExample.{their_sheet}
 
 -- a sheet, and the place that is named for it

@@ -14,7 +14,7 @@ pub mod OneCommand
 pub mod Longest
 pub mod ReportPlaces
 pub mod Opened
-pub mod Hex
+pub mod AreBytes
 pub mod SheetExample
 pub mod DamagedSheets
 pub mod ReportExample

@@ -7,7 +7,7 @@ use lib.ListN.{replicate, take}
 use Rattle.rules.specs.Runs.{Answer}
 use Rattle.sheets.specs.Bytes.{two}
 use Rattle.sheets.specs.Reports.{records_bytes, keys_bytes, report_bytes, count_one, tally}
-use Rattle.sheets.proofs.Hex.{hex}
+use Rattle.sheets.specs.Hex.{hex}
 
 abbrev says : (answer value : ℕ) → Answer
 says answer value = record { answer = answer; value = value }

@@ -11,7 +11,7 @@ use Rattle.sheets.specs.Sheets.{policy_number, part_bytes, parts_bytes, body_byt
 use Rattle.sheets.specs.Faults.{count}
 use Rattle.sheets.specs.Reading.{read_commands, read_policy}
 use Rattle.sheets.proofs.Opened.{sheets_opened}
-use Rattle.sheets.proofs.Hex.{hex}
+use Rattle.sheets.specs.Hex.{hex}
 
 -- the ten commands, not in the order of their numbers
 unfoldable pub ten_commands : List Command

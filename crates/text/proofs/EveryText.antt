@@ -22,6 +22,7 @@ use Rattle.sheets.specs.Reading.{read_commands, read_policy}
 use Rattle.sheets.proofs.Each.{each_nil, each_cons}
 use Rattle.sheets.proofs.Good.{good_sheet}
 use Rattle.sheets.proofs.Opened.{sheets_opened}
+use Rattle.sheets.proofs.AreBytes.{below_256, are_bytes}
 use Rattle.text.specs.Text.{word, digits, decimal, line, policy_name, command_names, command_name, first_line, command_line}
 use Rattle.text.specs.Text.{command_lines, tally_line, known_line, origin_word, key_line, key_lines}
 use Rattle.text.specs.Text.{report_text, malformed_text, Prints, is_malformed, has_run}
@@ -66,17 +67,6 @@ example_text =
     ++ word "key 1 generated\n"
 
 -- its numbers are bytes
-below_256 : List ℕ → Bool
-below_256 [] = true
-below_256 (x ∷ s) = ltb x 256 && below_256 s
-
-are_bytes : (s : List ℕ) → below_256 s ≡ true → Bytes s
-unfolding below_256
-are_bytes [] e = each_nil _
-are_bytes (x ∷ s) e =
-    let (here, others) = both (ltb x 256) (below_256 s) e in
-    each_cons _ x s (ltb-true x 256 here) (are_bytes s others)
-
 example_bytes : Bytes example
 unfolding example below_256
 example_bytes = are_bytes example refl

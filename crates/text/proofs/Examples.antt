@@ -1,5 +1,5 @@
--- Texts worked out by hand from document 01, its own example first: together they have every word that is printed, and numbers of one
--- digit and of more. Each is what the definitions print for its sheet, by computing. Rests on EveryText.
+-- Texts worked out by hand from document 01, besides its own example (EveryText): together they have every word that is printed, and
+-- numbers of one digit and of more. Each is what the definitions print for its sheet, by computing. Rests on EveryText.
 use Prim.Native.Nat.{ℕ}
 use mathlib.Core.Path.{◌≡◌, refl, subst}
 use mathlib.Core.Bool.{true}
@@ -11,7 +11,7 @@ use Rattle.rules.specs.Commands.{number, body}
 use Rattle.sheets.specs.Sheets.{policy_number, part_bytes, parts_bytes, body_bytes, contents, bodies, sheet_bytes}
 use Rattle.sheets.specs.Reports.{count_one, tally}
 use Rattle.sheets.proofs.Each.{Each, each_nil, each_cons}
-use Rattle.sheets.proofs.Hex.{below_256, are_bytes}
+use Rattle.sheets.proofs.AreBytes.{below_256, are_bytes}
 use Rattle.sheets.proofs.Opened.{sheets_opened}
 use Rattle.text.specs.Text.{word, digits, decimal, line, policy_name, command_names, command_name, first_line, command_line}
 use Rattle.text.specs.Text.{command_lines, tally_line, known_line, origin_word, key_line, key_lines}
@@ -22,24 +22,6 @@ use Rattle.text.proofs.EveryText.{run_text_of, text_or, text_of, prints}
 pub record Example : Type 0 where
   pub sheet : List ℕ
   pub text : List ℕ
-
--- "Sheet, in hex: 00 0004 01000F 010010 020011 050013 19 10 0001 000002 .. Output, whole"
-abbrev pub in_document_01 : Example
-in_document_01 =
-    record {
-      sheet =
-          0x00 ∷ 0x00 ∷ 0x04 ∷ 0x01 ∷ 0x00 ∷ 0x0F ∷ 0x01 ∷ 0x00 ∷ 0x10 ∷ 0x02 ∷ 0x00 ∷ 0x11 ∷ 0x05 ∷ 0x00 ∷ 0x13 ∷ 0x19 ∷ 0x10
-          ∷ 0x00 ∷ 0x01 ∷ 0x00 ∷ 0x00 ∷ 0x02 ∷ [];
-      text =
-          word "policy plain commands 4\n"
-          ++ word "1 GENERATE 0 0\n"
-          ++ word "2 GENERATE 0 1\n"
-          ++ word "3 WRAP 0 2\n"
-          ++ word "4 DECRYPT 0 1\n"
-          ++ word "done 4 refused 0\n"
-          ++ word "known 1\n"
-          ++ word "key 1 generated\n";
-    }
 
 -- every command; key 0 wraps key 1, which is corrupted, and key 2 is the caller's own
 abbrev pub every_command : Example
@@ -106,7 +88,7 @@ abbrev pub a_byte_follows : Example
 a_byte_follows = record { sheet = sheet_bytes plain (replicate 11 OWN_DATA) ++ 0 ∷ []; text = word "refused 12 place 12\n" }
 
 unfoldable pub examples : List Example
-examples = in_document_01 ∷ every_command ∷ all_refused ∷ unknown_number ∷ a_byte_follows ∷ []
+examples = every_command ∷ all_refused ∷ unknown_number ∷ a_byte_follows ∷ []
 
 -- the text of each is the text that is computed
 abbrev Computed : List Example → Type 0
@@ -117,7 +99,7 @@ computed : Computed examples
 unfolding sheets_opened policy_number part_bytes parts_bytes body_bytes contents bodies sheet_bytes number body examples below_256
     text_of text_or run_text_of report_text malformed_text first_line line word policy_name decimal digits command_lines command_line
     command_name command_names tally_line known_line key_lines key_line origin_word count_one tally
-computed = (refl, refl, (refl, refl, (refl, refl, (refl, refl, (refl, refl, tt)))))
+computed = (refl, refl, (refl, refl, (refl, refl, (refl, refl, tt))))
 
 -- .. so it is what the definitions print
 abbrev pub IsPrinted : Example → Type 0

@@ -1,18 +1,13 @@
--- Bytes as examples write them: hexadecimal digits, two to a byte; and that numbers are bytes, by a test. Rests on Each.
-use Prim.Native.Nat.{ℕ, zero, suc, ◌/◌, ◌%◌}
+-- That numbers are bytes, by a test: for the numbers of an example. Rests on Each.
+use Prim.Native.Nat.{ℕ}
 use mathlib.Core.Path.{◌≡◌}
 use mathlib.Core.Bool.{Bool, true, ◌&&◌}
-use mathlib.Core.List.{List, [], ◌∷◌, ◌++◌}
+use mathlib.Core.List.{List, [], ◌∷◌}
 use lib.Dec.{ltb}
 use borrow.Author.Tests.{ltb-true}
 use Rattle.rules.proofs.Named.{both}
 use Rattle.sheets.specs.Bytes.{Bytes}
 use Rattle.sheets.proofs.Each.{each_nil, each_cons}
-
--- the bytes that hexadecimal digits write, so many of them
-unfoldable pub hex : (bytes digits : ℕ) → List ℕ
-hex zero digits = []
-hex (suc n) digits = hex n (digits / 256) ++ digits % 256 ∷ []
 
 -- are these numbers bytes?
 unfoldable pub below_256 : List ℕ → Bool

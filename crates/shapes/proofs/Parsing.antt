@@ -4,18 +4,18 @@ use mathlib.Core.Bool.{Bool, true, false, not, or-true, false≢true}
 use mathlib.Core.List.{List}
 use Prim.Native.Nat.{ℕ, zero, suc, ◌<◌, ◌≤◌}
 use native.Mathlib.Omega.{arith}
+use Rattle.std.specs.Prelude.{Some, None}
 use borrow.Author.Tests.{lt-ltb, le-ltb, ltb-true, ltb-false, eq-eqb, ne_eqb, leb-true, leb-false}
 use lib.Dec.{eqb, leb}
 use lib.ListN.{length, get_or-eq_default}
 use Rattle.terms.proofs.Lists.{bool_cases}
 use Rattle.sheets.specs.Faults.{known_number, body_length, body_lengths}
 use Rattle.sheets.specs.Reading.{read_command}
-use Rattle.shapes.specs.declared.Parsed.TheVariants.{Known, Unknown}
 use Rattle.shapes.specs.Commands.{stored_command, parsed_if, no_command, not_a_call, parsed}
 
 -- a number and a body state the command that they read as
 abbrev pub States : (number : ℕ) → (body : List ℕ) → Type 0
-States number body = parsed number body ≡ Known (stored_command (read_command number body))
+States number body = parsed number body ≡ Some (stored_command (read_command number body))
 
 -- the numbers from 1 to 10 are known, and no others
 above_unknown : (number : ℕ) → 10 < number → known_number number ≡ false
@@ -68,12 +68,12 @@ ten n e u = let g : 9 < n = above 9 (known_above_0 n e) u in omega (arith, known
 
 module _ (number : ℕ) (body : List ℕ) where
   -- an unknown number states no command
-  pub unknown : known_number number ≡ false → parsed number body ≡ Unknown
+  pub unknown : known_number number ≡ false → parsed number body ≡ None
   unfolding parsed parsed_if no_command
   unknown e = simp e
 
   -- nor does a body of another length
-  pub other_length : (length body ≡ body_length number → ⊥) → parsed number body ≡ Unknown
+  pub other_length : (length body ≡ body_length number → ⊥) → parsed number body ≡ None
   unfolding parsed parsed_if no_command
   other_length f = simp (ne_eqb _ _ f, or-true)
 

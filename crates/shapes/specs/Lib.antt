@@ -1,3 +1,4 @@
--- The code's own words: entries and what they name, and a command from its bytes.
+-- The code's own words: entries and what they name, a command from its bytes, and a policy from its number.
 pub mod Entries
 pub mod Commands
+pub mod Policies

@@ -4,15 +4,16 @@
 
 pub mod entries;
 pub mod parse;
+pub mod policy;
 
 // Handle numbers, key numbers and term numbers are three separate counts.
-#[derive(Clone, Copy)]
+#[derive(Clone, Copy, PartialEq, Eq)]
 pub struct HandleNo(pub u8);
 
-#[derive(Clone, Copy)]
+#[derive(Clone, Copy, PartialEq, Eq)]
 pub struct KeyNo(pub u16);
 
-#[derive(Clone, Copy)]
+#[derive(Clone, Copy, PartialEq, Eq)]
 pub struct TermNo(pub u16);
 
 // A term: a data item, a key, or a seal of a term under a key.
@@ -63,18 +64,4 @@ pub enum Command {
 pub struct SheetEntry {
     pub number: u8,
     pub command: Command,
-}
-
-// A command number and a body, read.
-#[derive(Clone, Copy)]
-pub enum Parsed {
-    Known(Command),
-    Unknown,
-}
-
-// The number that a new handle takes, where one is left.
-#[derive(Clone, Copy)]
-pub enum Free {
-    At(HandleNo),
-    Full,
 }

@@ -4,7 +4,7 @@ ghost use Rattle.sheets.specs.Bytes.{two_at};
 ghost use Rattle.sheets.specs.Faults.{known_number, body_length};
 ghost use Rattle.shapes.specs.Commands.{not_a_call, parsed};
 
-use crate::{Command, HandleNo, Parsed, TermNo};
+use crate::{Command, HandleNo, TermNo};
 
 // By command number, from 0, which is no command.
 const LENGTHS: [usize; 11] = [0, 1, 2, 4, 3, 3, 1, 1, 0, 0, 4];
@@ -17,9 +17,7 @@ fn term_at(body: &[u8], at: usize) -> TermNo
     requires { at + 1 < length body.now }
     ensures { result.0 ≡ two_at body.now at }
 {
-    let high = body[at] as u16;
-    let low = body[at + 1] as u16;
-    TermNo(high * 256 + low)
+    TermNo(u16::from_be_bytes([body[at], body[at + 1]]))
 }
 
 // Is this the number of a command?
@@ -42,26 +40,26 @@ pub fn body_length(number: u8) -> usize
     LENGTHS[number as usize]
 }
 
-pub fn parse(number: u8, body: &[u8]) -> Parsed
+pub fn parse(number: u8, body: &[u8]) -> Option<Command>
     ensures { result ≡ parsed number body.now }
 {
     if !known_number(number) {
-        return Parsed::Unknown;
+        return None;
     }
     if body.len() != body_length(number) {
-        return Parsed::Unknown;
+        return None;
     }
     match number {
-        1 => Parsed::Known(Command::Generate(body[0])),
-        2 => Parsed::Known(Command::Wrap(HandleNo(body[0]), HandleNo(body[1]))),
-        3 => Parsed::Known(Command::Unwrap(HandleNo(body[0]), term_at(body, 1), body[3])),
-        4 => Parsed::Known(Command::Encrypt(HandleNo(body[0]), term_at(body, 1))),
-        5 => Parsed::Known(Command::Decrypt(HandleNo(body[0]), term_at(body, 1))),
-        6 => Parsed::Known(Command::Corrupt(HandleNo(body[0]))),
-        7 => Parsed::Known(Command::Destroy(HandleNo(body[0]))),
-        8 => Parsed::Known(Command::OwnKey),
-        9 => Parsed::Known(Command::OwnData),
-        _ => Parsed::Known(Command::Seal(term_at(body, 0), term_at(body, 2))),
+        1 => Some(Command::Generate(body[0])),
+        2 => Some(Command::Wrap(HandleNo(body[0]), HandleNo(body[1]))),
+        3 => Some(Command::Unwrap(HandleNo(body[0]), term_at(body, 1), body[3])),
+        4 => Some(Command::Encrypt(HandleNo(body[0]), term_at(body, 1))),
+        5 => Some(Command::Decrypt(HandleNo(body[0]), term_at(body, 1))),
+        6 => Some(Command::Corrupt(HandleNo(body[0]))),
+        7 => Some(Command::Destroy(HandleNo(body[0]))),
+        8 => Some(Command::OwnKey),
+        9 => Some(Command::OwnData),
+        _ => Some(Command::Seal(term_at(body, 0), term_at(body, 2))),
     }
 }
 

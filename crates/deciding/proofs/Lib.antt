@@ -1,3 +1,3 @@
--- The constant tables' rules, and the answers of each command.
+-- The constant tables' rules, and the contract's uniqueness.
 pub mod TableRules
-pub mod Answers
+pub mod Contract

@@ -5,41 +5,22 @@
 pub mod decide;
 mod tables;
 
-use shapes::{Entry, Free, HandleNo, KeyNo, Slot, TermNo};
+use shapes::{Entry, HandleNo, KeyNo, Slot, TermNo};
 
-// Looking up a handle or a term.
-#[derive(Clone, Copy)]
-pub enum Handle {
-    Live(Slot),
-    Dead,
-}
-
-#[derive(Clone, Copy)]
-pub enum Lookup {
-    There(Entry),
-    Nothing,
-}
-
-// Looking for the equal of a seal.
-#[derive(Clone, Copy)]
-pub enum Equal {
-    At(TermNo),
-    New,
-}
-
-// What a command sees of the token: the handles and terms that it names, the payload of the first term, the entries of the two
-// handles' keys, the equal of the seal that it would make, the number a new handle takes, and how many terms there are.
+// What a command sees of the token: the slots of the handles and the entries of the terms that it names, none for what is not
+// there, the payload of the first term, the entries of the two handles' keys, the equal of the seal that it would make, the number
+// a new handle takes, and how many terms there are.
 #[derive(Clone, Copy)]
 pub struct View {
-    pub a: Handle,
-    pub b: Handle,
-    pub t: Lookup,
-    pub u: Lookup,
+    pub a: Option<Slot>,
+    pub b: Option<Slot>,
+    pub t: Option<Entry>,
+    pub u: Option<Entry>,
     pub payload: Entry,
     pub outer: Entry,
     pub inner: Entry,
-    pub equal: Equal,
-    pub free: Free,
+    pub equal: Option<TermNo>,
+    pub free: Option<HandleNo>,
     pub terms: u16,
 }
 
@@ -56,9 +37,24 @@ pub enum Change {
     Know(TermNo),
 }
 
+// What a done command answers besides 0.
 #[derive(Clone, Copy)]
-pub struct Decision {
-    pub answer: u8,
+pub struct Done {
     pub value: u16,
     pub change: Change,
+}
+
+// Why a command is refused, each with its number in document 01's table of answers.
+#[derive(Clone, Copy, PartialEq, Eq)]
+pub enum Refusal {
+    HoldsTopBit = 2,
+    NotLive = 3,
+    NoTerm = 4,
+    NotGranted = 5,
+    FlagMissing = 6,
+    NotHeld = 7,
+    WrongKind = 8,
+    KeyEncrypted = 9,
+    NoHandleLeft = 10,
+    NoTermLeft = 11,
 }

@@ -11,6 +11,7 @@ use mathlib.Core.List.{List}
 use mathlib.Core.Option.{none}
 use lib.ListN.{length}
 use borrow.Author.Tests.{lt-ltb}
+use Rattle.std.specs.Prelude.{Ok, Err}
 use Rattle.sheets.specs.Bytes.{byte_at, two_at}
 use Rattle.sheets.specs.Sheets.{bodies_begin}
 use Rattle.sheets.specs.Faults.{body_length, count, entry_number, entry_offset, bodies_end, header_fault, entry_fault}
@@ -18,7 +19,6 @@ use Rattle.sheets.specs.Faults.{bytes_follow, fault_at, first_fault}
 use Rattle.sheets.proofs.Places.{FirstFault, first_fault_some}
 use Rattle.sheets.proofs.Faultless.{HeaderFaultless, EntryFaultless, header_exactly, entry_exactly, fault_at_entry, fault_at_end}
 use Rattle.sheets.proofs.Faultless.{none_faultless}
-use Rattle.reader.specs.declared.Checked.TheVariants.{Good, Malformed}
 use Rattle.reader.specs.Reader.{checked_as, checked}
 use Rattle.reader.proofs.Tests.{faulty}
 
@@ -31,12 +31,12 @@ pub record Walked (s : List ℕ) (i end : ℕ) : Type 0 where
   pub entries : (j : ℕ) → j < i → EntryFaultless s j
 
 -- the answer at the first fault
-named : (s : List ℕ) (place : ℕ) → FirstFault s place → Malformed place ≡ checked s
+named : (s : List ℕ) (place : ℕ) → FirstFault s place → Err (record { place = place }) ≡ checked s
 unfolding checked checked_as
 named s place f = rw ((first_fault_some s place).1 f)
 
 -- a fault of the header is at place 0
-pub header_named : (s : List ℕ) → header_fault s ≡ true → Malformed 0 ≡ checked s
+pub header_named : (s : List ℕ) → header_fault s ≡ true → Err (record { place = 0 }) ≡ checked s
 unfolding fault_at
 header_named s e =
     named s 0 (record { in_range = omega arith; is_fault = e; none_before = λ j h. absurd (not-suc-le-zero h) })
@@ -49,7 +49,7 @@ none_behind s i end w (suc j) h =
     fault_at_entry s j (omega (arith, w.in_range)) ∙ (entry_exactly s j).1 (w.entries j (le_of_suc-le-suc h))
 
 -- a fault at the next place is the first
-next_named : (s : List ℕ) (i end : ℕ) → Walked s i end → fault_at s (suc i) ≡ true → Malformed (i + 1) ≡ checked s
+next_named : (s : List ℕ) (i end : ℕ) → Walked s i end → fault_at s (suc i) ≡ true → Err (record { place = i + 1 }) ≡ checked s
 next_named s i end w e =
     rw (add-one i)
     (named s (suc i) (record { in_range = omega (arith, w.in_range); is_fault = e; none_before = none_behind s i end w }))
@@ -86,7 +86,7 @@ module _ (s : List ℕ) (n : ℕ) (counted : n ≡ two_at s 1) where
       tested = rw (is_number, is_offset, w.at_end)
 
       -- an entry with a fault is named
-      pub entry_named : faulty number offset end (length s) ≡ true → Malformed (i + 1) ≡ checked s
+      pub entry_named : faulty number offset end (length s) ≡ true → Err (record { place = i + 1 }) ≡ checked s
       entry_named e = next_named s i end w (fault_at_entry s i ahead ∙ sym tested ∙ e)
 
       -- one without is passed
@@ -117,7 +117,7 @@ module _ (s : List ℕ) (n : ℕ) (counted : n ≡ two_at s 1) where
     at_last = w.at_end ∙ ap (bodies_end s) all_behind
 
     -- bytes that follow the last body are named
-    pub end_named : end < length s → Malformed (n + 1) ≡ checked s
+    pub end_named : end < length s → Err (record { place = n + 1 }) ≡ checked s
     unfolding bytes_follow count
     end_named l =
         let e : bytes_follow s ≡ true = lt-ltb (bodies_end s (count s)) (length s) (omega (arith, at_last)) in
@@ -125,7 +125,7 @@ module _ (s : List ℕ) (n : ℕ) (counted : n ≡ two_at s 1) where
         rw same (next_named s i end w (fault_at_end s i (omega (arith, all_behind)) ∙ e))
 
     -- .. and where none do the sheet is good
-    pub end_good : length s ≤ end → Good (byte_at s 0) n ≡ checked s
+    pub end_good : length s ≤ end → Ok (record { policy = byte_at s 0; count = n }) ≡ checked s
     unfolding checked checked_as count
     end_good l =
         let none_at_all : first_fault s ≡ none = (none_faultless s).1 (record {

@@ -10,6 +10,7 @@ use mathlib.Core.List.{List, [], ◌∷◌, ◌++◌}
 use mathlib.Core.Option.{Option, none, some}
 use lib.ListN.{get_elem?, length, take, drop, length-append, length-take, length-drop}
 use borrow.Author.Tests.{eq-eqb}
+use Rattle.std.specs.Prelude.{Some, Ok, Err}
 use Rattle.terms.proofs.Lists.{at_append, at_end, at_below}
 use Rattle.rules.specs.Templates.{Policy}
 use Rattle.rules.specs.Commands.{Command, GENERATE, WRAP, UNWRAP, ENCRYPT, DECRYPT, CORRUPT, DESTROY, SEAL, number}
@@ -26,9 +27,8 @@ use Rattle.sheets.proofs.Walks.{command_at}
 use Rattle.sheets.proofs.Good.{sheet_begins, sheet_read, sheet_good}
 use Rattle.sheets.proofs.Sizes.{sheet_bytes_are_bytes}
 use Rattle.shapes.specs.Commands.{stored_command, parsed_if, no_command, parsed}
-use Rattle.shapes.specs.declared.Parsed.TheVariants.{Known}
-use Rattle.reader.specs.declared.Checked.TheVariants.{Good, Malformed}
-use Rattle.reader.specs.declared.Read.TheVariants.{Entry}
+use Rattle.reader.specs.declared.Header.{Header}
+use Rattle.reader.specs.declared.Malformed.{Malformed}
 use Rattle.reader.specs.Reader.{checked_as, checked, has_body, body_at, read_as, entry_at}
 use Rattle.reader.proofs.Tests.{is_inside, the_body, the_entry}
 
@@ -43,34 +43,38 @@ pub record IsGood (s : List ℕ) (policy n : ℕ) : Type 0 where
   pub its_count : count s ≡ n
 
 good_as : (s : List ℕ) (policy n : ℕ) (fault : Option ℕ) → first_fault s ≡ fault
-    → checked_as fault (byte_at s 0) (count s) ≡ Good policy n → IsGood s policy n
+    → checked_as fault (byte_at s 0) (count s) ≡ Ok (record { policy = policy; count = n }) → IsGood s policy n
 unfolding checked_as
-good_as s policy n none f e = record { no_fault = f; its_policy = cc; its_count = cc }
+good_as s policy n none f e =
+    let q : ◌≡◌ {A = Header} (record { policy = byte_at s 0; count = count s }) (record { policy = policy; count = n }) = cc in
+    record { no_fault = f; its_policy = ap (λ (h : Header). h.policy) q; its_count = ap (λ (h : Header). h.count) q }
 good_as s policy n (some place) f e = let z : ◌≡◌ {A = ℕ} 0 1 = cc in absurd (omega arith)
 
-pub checked_good : (s : List ℕ) (policy n : ℕ) → (checked s ≡ Good policy n) ↔ IsGood s policy n
+pub checked_good : (s : List ℕ) (policy n : ℕ) → (checked s ≡ Ok (record { policy = policy; count = n })) ↔ IsGood s policy n
 unfolding checked checked_as
 checked_good s policy n =
     (λ e. good_as s policy n (first_fault s) refl e, λ g. rw (g.no_fault, g.its_policy, g.its_count))
 
 -- .. and malformed at a place exactly where that place is named
-malformed_as : (policy n place : ℕ) (fault : Option ℕ) → checked_as fault policy n ≡ Malformed place → fault ≡ some place
+malformed_as : (policy n place : ℕ) (fault : Option ℕ) → checked_as fault policy n ≡ Err (record { place = place }) → fault ≡ some place
 unfolding checked_as
 malformed_as policy n place none e = let z : ◌≡◌ {A = ℕ} 0 1 = cc in absurd (omega arith)
-malformed_as policy n place (some p) e = cc
+malformed_as policy n place (some p) e =
+    let q : ◌≡◌ {A = Malformed} (record { place = p }) (record { place = place }) = cc in
+    ap (λ (m : Malformed). some m.place) q
 
-pub checked_malformed : (s : List ℕ) (place : ℕ) → (checked s ≡ Malformed place) ↔ (first_fault s ≡ some place)
+pub checked_malformed : (s : List ℕ) (place : ℕ) → (checked s ≡ Err (record { place = place })) ↔ (first_fault s ≡ some place)
 unfolding checked checked_as
 checked_malformed s place = (λ e. malformed_as _ _ place (first_fault s) e, λ f. rw f)
 
 -- a policy answered is at most 2, a count at most 4,096, a place at most 4,097
-pub good_most : (s : List ℕ) {policy n : ℕ} → checked s ≡ Good policy n → (policy ≤ 2) × (n ≤ most_commands)
+pub good_most : (s : List ℕ) {policy n : ℕ} → checked s ≡ Ok (record { policy = policy; count = n }) → (policy ≤ 2) × (n ≤ most_commands)
 good_most s {policy} {n} e =
     let g = (checked_good s policy n).0 e in
     let header = ((none_faultless s).0 g.no_fault).header in
     (rw (← g.its_policy) header.policy_below, rw (← g.its_count) header.few)
 
-pub malformed_most : (s : List ℕ) {place : ℕ} → checked s ≡ Malformed place → place ≤ most_commands + 1
+pub malformed_most : (s : List ℕ) {place : ℕ} → checked s ≡ Err (record { place = place }) → place ≤ most_commands + 1
 malformed_most s {place} e = place_most place ((first_fault_some s place).0 ((checked_malformed s place).0 e))
 
 same_unwrap : {h h' t t' f f' : ℕ} → h ≡ h' → t ≡ t' → f ≡ f' → UNWRAP h t f ≡ UNWRAP h' t' f'
@@ -96,7 +100,7 @@ module _ (b : List ℕ) where
 
 -- of a number and as many bytes as its body has, the command that they read as is stated
 parsed_known : (n : ℕ) (body : List ℕ) → known_number n ≡ true → length body ≡ body_length n
-    → parsed n body ≡ Known (stored_command (read_command n body))
+    → parsed n body ≡ Some (stored_command (read_command n body))
 unfolding parsed parsed_if no_command
 parsed_known n body known sized = rw (known, eq-eqb (length body) (body_length n) sized)
 
@@ -126,7 +130,7 @@ module _ (s : List ℕ) (i : ℕ) (good : first_fault s ≡ none) (in_range : i 
   body_sized = rw (good_body, length-take, length-drop) (omega (arith, entry_faultless.inside))
 
   -- .. and the entry is the command that is read there
-  pub good_entry : entry_at s i ≡ Entry (record { number = entry_number s i; command = stored_command (command_at s i) })
+  pub good_entry : entry_at s i ≡ Some (record { number = entry_number s i; command = stored_command (command_at s i) })
   unfolding read_as
   good_entry =
       let n = entry_number s i in
@@ -134,7 +138,7 @@ module _ (s : List ℕ) (i : ℕ) (good : first_fault s ≡ none) (in_range : i 
       let read : read_command n (body_at s i) ≡ command_at s i =
       ap (read_command n) good_body ∙ read_front (drop (bodies_end s i) s) n entry_faultless.known in
       sym (the_entry s i n (body_at s i) _ body_there refl refl refl)
-      ∙ ap (read_as n) (known ∙ ap (λ (c : Command). Known (stored_command c)) read)
+      ∙ ap (read_as n) (known ∙ ap (λ (c : Command). Some (stored_command c)) read)
 
 -- entry i states command i of those that are read
 read_length : (s : List ℕ) (n : ℕ) → length (read_commands s n) ≡ n
@@ -156,13 +160,13 @@ read_at s (suc n) i h =
 
 -- of the sheet of some commands under a policy, that policy and those commands are read
 module _ {s : List ℕ} {p : Policy} {cs : List Command} (sheet : Sheet s p cs) where
-  pub reads_good : checked s ≡ Good (policy_number p) (length cs)
+  pub reads_good : checked s ≡ Ok (record { policy = policy_number p; count = length cs })
   reads_good =
       (checked_good s (policy_number p) (length cs)).1
       (record { no_fault = sheet_good sheet; its_policy = (sheet_begins sheet).policy; its_count = (sheet_begins sheet).counted })
 
   pub reads_all : (i : ℕ) {c : Command} → get_elem? cs i ≡ some c
-      → entry_at s i ≡ Entry (record { number = number c; command = stored_command c })
+      → entry_at s i ≡ Some (record { number = number c; command = stored_command c })
   reads_all i {c} e =
       let in_range : i < count s = rw (sheet_begins sheet).counted (at_below cs i e) in
       let there : some (command_at s i) ≡ some c =

@@ -7,14 +7,14 @@ use mathlib.Core.List.{List, []}
 use lib.Dec.{ltb, leb, eqb}
 use lib.ListN.{length, take, drop}
 use borrow.Author.Tests.{ltb-true, ltb-false, leb-true, leb-false, lt-ltb, le-ltb, le-leb, lt-leb, eq-eqb, ne_eqb, not-true, not-false}
+use Rattle.std.specs.Prelude.{Option, None}
 use Rattle.terms.proofs.Lists.{bool_cases}
 use Rattle.rules.proofs.Named.{both}
 use Rattle.sheets.specs.Bytes.{byte_at, two_at}
 use Rattle.sheets.specs.Sheets.{bodies_begin}
 use Rattle.sheets.specs.Faults.{known_number, body_length, count, entry_number, entry_offset, header_fault}
 use Rattle.shapes.specs.Commands.{parsed}
-use Rattle.shapes.specs.declared.Parsed.{Parsed}
-use Rattle.reader.specs.declared.Read.TheVariants.{NoEntry}
+use Rattle.shapes.specs.declared.Command.{Command}
 use Rattle.reader.specs.Reader.{has_entry, has_body, body_at, read_as, entry_at}
 
 -- a test that is asked by its opposite: it is passed, or failed
@@ -152,11 +152,11 @@ module _ (s : List ℕ) (i : ℕ) where
         let so_many : from + size - from ≡ body_length (entry_number s i) = omega (arith, sized ∙ ap body_length numbered) in
         rw (so_many, offset) (sym (the_body there))
 
-  pub no_entry : has_body s i ≡ false → entry_at s i ≡ NoEntry
+  pub no_entry : has_body s i ≡ false → entry_at s i ≡ None
   unfolding entry_at
   no_entry e = rw e
 
-  pub the_entry : (number : ℕ) (body : List ℕ) (read : Parsed) → has_body s i ≡ true → number ≡ entry_number s i
+  pub the_entry : (number : ℕ) (body : List ℕ) (read : Option Command) → has_body s i ≡ true → number ≡ entry_number s i
       → body ≡ body_at s i → read ≡ parsed number body → read_as number read ≡ entry_at s i
   unfolding entry_at
   the_entry number body read e n b r = rw e (cc)

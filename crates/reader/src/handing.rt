@@ -2,7 +2,8 @@
 ghost use Rattle.std.specs.Prelude.{◌≡◌};
 ghost use Rattle.reader.specs.Reader.{body_at, entry_at};
 
-use crate::{Read, body, entry};
+use crate::{body, entry};
+use shapes::SheetEntry;
 
 // The sheet itself, and how many entries stand before this one.
 #[derive(Clone, Copy)]
@@ -18,14 +19,14 @@ pub fn reader_body<'a>(r: Reader<'a>) -> &'a [u8]
     body(r.sheet, r.entry)
 }
 
-pub fn reader_entry<'a>(r: Reader<'a>) -> Read
+pub fn reader_entry<'a>(r: Reader<'a>) -> Option<SheetEntry>
     ensures { result ≡ entry_at r.entry.sheet.now r.entry.entry }
 {
     entry(r.sheet, r.entry)
 }
 
 // From a slice and a number to a reader and back: whoever calls this needs to know of no reader.
-pub fn read_entry(sheet: &[u8], i: u16) -> Read
+pub fn read_entry(sheet: &[u8], i: u16) -> Option<SheetEntry>
     ensures { result ≡ entry_at sheet.now i }
 {
     reader_entry(Reader { sheet, entry: i })

@@ -8,32 +8,31 @@ ghost use Rattle.reader.specs.Reader.{checked, body_at, entry_at};
 use crate::table::{
     bodies_begin, entry_fault, has_body, header_fault, number_at, offset_at, two_at,
 };
+use shapes::SheetEntry;
 use shapes::parse::{body_length, parse};
-use shapes::{Parsed, SheetEntry};
 
 pub mod handing;
 mod table;
 
-// What a sheet is found to be: good, with its policy and count, or malformed, with the place of its first fault.
-#[derive(Clone, Copy)]
-pub enum Checked {
-    Good(u8, u16),
-    Malformed(u16),
+// What the header of a good sheet says: its policy, and how many entries it has.
+#[derive(Clone, Copy, PartialEq, Eq)]
+pub struct Header {
+    pub policy: u8,
+    pub count: u16,
 }
 
-// An entry of a sheet, where there is one with its body inside.
-#[derive(Clone, Copy)]
-pub enum Read {
-    Entry(SheetEntry),
-    NoEntry,
+// What is wrong with any other: the place of its first fault.
+#[derive(Clone, Copy, PartialEq, Eq)]
+pub struct Malformed {
+    pub place: u16,
 }
 
 // Checks a sheet to its first fault, in one pass: `end` is where the bodies passed end.
-pub fn check(sheet: &[u8]) -> Checked
+pub fn check(sheet: &[u8]) -> Result<Header, Malformed>
     ensures { result ≡ checked sheet.now }
 {
     if header_fault(sheet) {
-        return Checked::Malformed(0);
+        return Err(Malformed { place: 0 });
     }
     let count = two_at(sheet, 1);
     let mut end = bodies_begin(count);
@@ -42,15 +41,18 @@ pub fn check(sheet: &[u8]) -> Checked
         let number = number_at(sheet, i);
         let offset = offset_at(sheet, i);
         if entry_fault(number, offset, end, sheet.len()) {
-            return Checked::Malformed(i + 1);
+            return Err(Malformed { place: i + 1 });
         }
         end += body_length(number);
         i += 1;
     }
     if end < sheet.len() {
-        return Checked::Malformed(count + 1);
+        return Err(Malformed { place: count + 1 });
     }
-    Checked::Good(sheet[0], count)
+    Ok(Header {
+        policy: sheet[0],
+        count,
+    })
 }
 
 // The body of the entry with i entries before it: that part of the sheet, or the empty part where it is not inside.
@@ -66,16 +68,13 @@ pub fn body<'a>(sheet: &'a [u8], i: u16) -> &'a [u8]
 }
 
 // The entry with i entries before it.
-pub fn entry(sheet: &[u8], i: u16) -> Read
+pub fn entry(sheet: &[u8], i: u16) -> Option<SheetEntry>
     ensures { result ≡ entry_at sheet.now i }
 {
     if !has_body(sheet, i) {
-        return Read::NoEntry;
+        return None;
     }
     let number = number_at(sheet, i);
-    let parsed = parse(number, body(sheet, i));
-    match parsed {
-        Parsed::Known(command) => Read::Entry(SheetEntry { number, command }),
-        Parsed::Unknown => Read::NoEntry,
-    }
+    let command = parse(number, body(sheet, i))?;
+    Some(SheetEntry { number, command })
 }

@@ -7,33 +7,34 @@ use mathlib.Core.Option.{Option, none, some}
 use lib.ListN.{length}
 use borrow.Author.Tests.{le-leb, lt-leb}
 use Rattle.sheets.specs.Calls.{over}
-use Rattle.writer.specs.declared.Found.{Found}
-use Rattle.writer.specs.declared.Found.TheVariants.{Long, Fault}
-use Rattle.writer.specs.declared.Written.TheVariants.{Sheet, Malformed, Short}
+use Rattle.std.specs.Prelude.{Result, Ok, Err}
+use Rattle.writer.specs.declared.WriteError.{WriteError}
+use Rattle.writer.specs.declared.WriteError.TheVariants.{Malformed, Short}
 use Rattle.writer.specs.Writer.{first_unholdable, asked_sheet, sheet_into, wrote_as, wrote}
 use Rattle.writer.specs.Parts.{found_as, Ready}
 use Rattle.writer.proofs.Handed.{all_held, asked_most}
 
 -- what was found, from what is told of it
-found_fault : (o : Option ℕ) (long place : ℕ) → found_as o long ≡ Fault place → o ≡ some place
-unfolding found_as
-found_fault none long place e = cc
-found_fault (some i) long place e = cc
+refused : (o : Option ℕ) (long : ℕ) (sheet before : List ℕ) (error : WriteError) → found_as o long ≡ Err error
+    → wrote_as o sheet before ≡ record { answer = Err error; buffer = before }
+unfolding found_as wrote_as
+refused none long sheet before error e = cc
+refused (some i) long sheet before error e = let same : Malformed i ≡ error = cc in rw same
 
-found_long : (o : Option ℕ) (whole long : ℕ) → found_as o whole ≡ Long long → (o ≡ none) × (long ≡ whole)
+found_long : (o : Option ℕ) (whole long : ℕ) → found_as o whole ≡ Ok long → (o ≡ none) × (long ≡ whole)
 unfolding found_as
 found_long none whole long e = (refl, cc)
 found_long (some i) whole long e = (cc, cc)
 
-module _ (policy n : ℕ) (handed : List ℕ) {told : Found}
+module _ (policy n : ℕ) (handed : List ℕ) {told : Result ℕ WriteError}
     (is : told ≡ found_as (first_unholdable policy n handed) (length (asked_sheet policy n handed))) where
   -- what no sheet can hold is answered by its place, and nothing is written
-  pub answers_fault : {place : ℕ} → told ≡ Fault place → (before : List ℕ)
-      → wrote policy n handed before ≡ record { answer = Malformed place; buffer = before }
-  unfolding wrote wrote_as
-  answers_fault {place} e before = rw (found_fault _ _ place (sym is ∙ e))
+  pub answers_fault : {error : WriteError} → told ≡ Err error → (before : List ℕ)
+      → wrote policy n handed before ≡ record { answer = Err error; buffer = before }
+  unfolding wrote
+  answers_fault e before = refused _ _ _ before _ (sym is ∙ e)
 
-  module _ {long : ℕ} (e : told ≡ Long long) where
+  module _ {long : ℕ} (e : told ≡ Ok long) where
     nothing_found : (first_unholdable policy n handed ≡ none) × (long ≡ length (asked_sheet policy n handed))
     nothing_found = found_long _ _ long (sym is ∙ e)
 
@@ -42,7 +43,7 @@ module _ (policy n : ℕ) (handed : List ℕ) {told : Found}
 
     -- a sheet that does not fit is answered 13, and nothing is written
     pub answers_short : (before : List ℕ) → length before < long
-        → wrote policy n handed before ≡ record { answer = Short; buffer = before }
+        → wrote policy n handed before ≡ record { answer = Err Short; buffer = before }
     unfolding wrote wrote_as sheet_into
     answers_short before h =
         let less : length before < length (asked_sheet policy n handed) = omega (arith, nothing_found.1) in
@@ -56,7 +57,7 @@ module _ (policy n : ℕ) (handed : List ℕ) {told : Found}
 
     -- .. and is written over the front of the buffer
     pub answers_sheet : (before after : List ℕ) → long ≤ length before → after ≡ over (asked_sheet policy n handed) before
-        → wrote policy n handed before ≡ record { answer = Sheet long; buffer = after }
+        → wrote policy n handed before ≡ record { answer = Ok long; buffer = after }
     unfolding wrote wrote_as sheet_into
     answers_sheet before after h w =
         let fits : length (asked_sheet policy n handed) ≤ length before = omega (arith, nothing_found.1) in

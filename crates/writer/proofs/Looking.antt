@@ -16,7 +16,8 @@ use Rattle.sheets.specs.Bytes.{Bytes}
 use Rattle.sheets.specs.Sheets.{most_commands, bodies, bodies_begin}
 use Rattle.sheets.specs.Faults.{body_length}
 use Rattle.sheets.proofs.Places.{NoneBelow, smallest_some, smallest_none}
-use Rattle.writer.specs.declared.Found.TheVariants.{Long, Fault}
+use Rattle.std.specs.Prelude.{Ok, Err}
+use Rattle.writer.specs.declared.WriteError.TheVariants.{Malformed}
 use Rattle.writer.specs.Writer.{handed_number, handed_commands, unholdable, first_unholdable, asked_sheet}
 use Rattle.writer.specs.Parts.{found_as, Held}
 use Rattle.writer.proofs.Handed.{held, bodies_next_length, bodies_few, asked_length}
@@ -24,22 +25,22 @@ use Rattle.writer.proofs.Handed.{held, bodies_next_length, bodies_few, asked_len
 -- what is answered for each
 module _ (policy n : ℕ) (handed : List ℕ) (long : ℕ) where
   named : (place : ℕ) → first_unholdable policy n handed ≡ some place
-      → Fault place ≡ found_as (first_unholdable policy n handed) long
+      → Err (Malformed place) ≡ found_as (first_unholdable policy n handed) long
   unfolding found_as
   named place e = rw e
 
-  fault_0 : unholdable policy n handed 0 ≡ true → Fault 0 ≡ found_as (first_unholdable policy n handed) long
+  fault_0 : unholdable policy n handed 0 ≡ true → Err (Malformed 0) ≡ found_as (first_unholdable policy n handed) long
   unfolding first_unholdable
   fault_0 e =
       named 0
       ((smallest_some (unholdable policy n handed) (suc n) 0).1
       (record { in_range = omega arith; passes = e; none_before = λ j h. absurd (not-suc-le-zero h) }))
 
-  pub policy_above : 2 < policy → Fault 0 ≡ found_as (first_unholdable policy n handed) long
+  pub policy_above : 2 < policy → Err (Malformed 0) ≡ found_as (first_unholdable policy n handed) long
   unfolding unholdable
   policy_above h = fault_0 (rw (lt-ltb _ _ h))
 
-  pub too_many : most_commands < n → Fault 0 ≡ found_as (first_unholdable policy n handed) long
+  pub too_many : most_commands < n → Err (Malformed 0) ≡ found_as (first_unholdable policy n handed) long
   unfolding unholdable
   too_many h = fault_0 (rw (lt-ltb _ _ h) (or-true (ltb 2 policy)))
 
@@ -65,7 +66,7 @@ looking_none policy n handed low few =
 module _ (policy n : ℕ) (handed : List ℕ) (i long : ℕ) (so_far : Looking policy n handed i long) where
   -- the next command is one that no sheet can hold
   pub looking_fault : i < n → unholdable policy n handed (suc i) ≡ true → (whole : ℕ)
-      → Fault (i + 1) ≡ found_as (first_unholdable policy n handed) whole
+      → Err (Malformed (i + 1)) ≡ found_as (first_unholdable policy n handed) whole
   unfolding first_unholdable
   looking_fault h e whole =
       rw add-one
@@ -100,9 +101,9 @@ module _ (policy n : ℕ) (handed : List ℕ) (i long : ℕ) (so_far : Looking p
   looking_small = omega (arith, so_far.so_long, so_far.few, so_far.in_range, bodies_few handed i)
 
   -- every command can be held
-  pub looking_all : n ≤ i → Long long ≡ found_as (first_unholdable policy n handed) (length (asked_sheet policy n handed))
+  pub looking_all : n ≤ i → Ok long ≡ found_as (first_unholdable policy n handed) (length (asked_sheet policy n handed))
   unfolding first_unholdable found_as
   looking_all h =
       let e : i ≡ n = omega (arith, so_far.in_range) in
       let all = (smallest_none (unholdable policy n handed) (suc n)).1 (rw e at so_far.none_yet) in
-      rw all (ap Long ((rw e at so_far.so_long) ∙ sym (asked_length policy n handed)))
+      rw all (ap Ok ((rw e at so_far.so_long) ∙ sym (asked_length policy n handed)))

@@ -15,7 +15,7 @@ use Rattle.sheets.proofs.Bytes.{byte_behind, byte_below}
 use Rattle.sheets.proofs.Each.{each_nil, each_cons, each_append, each_replicate, each_take, each_drop}
 use Rattle.sheets.proofs.Faultless.{none_faultless}
 use Rattle.sheets.proofs.Sizes.{body_most}
-use Rattle.writer.specs.declared.Written.TheVariants.{Sheet as WrittenSheet}
+use Rattle.std.specs.Prelude.{Ok}
 use Rattle.writer.specs.Writer.{handed_number, handed_length, handed_body}
 use Rattle.writer.proofs.Unique.{Result}
 use Rattle.writer.proofs.RoundTrips.{Hands, read_writes_again}
@@ -124,7 +124,7 @@ module _ (s : List ℕ) (good : first_fault s ≡ none) (i : ℕ) (h : i < count
 pub none_lost : (s : List ℕ) → Bytes s → first_fault s ≡ none
     → (handed : List ℕ) × Bytes handed
     × ((buffer : List ℕ) → length s ≤ length buffer
-    → Result (byte_at s 0) (count s) handed buffer (WrittenSheet (length s)) (over s buffer))
+    → Result (byte_at s 0) (count s) handed buffer (Ok (length s)) (over s buffer))
 unfolding all
 none_lost s bytes good =
     (records s (count s), records_bytes s bytes (count s), read_writes_again s bytes good (records s (count s)) (hands s good))

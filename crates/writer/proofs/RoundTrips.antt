@@ -18,7 +18,7 @@ use Rattle.sheets.proofs.Each.{each_drop}
 use Rattle.sheets.proofs.Bodies.{stated, body_taken, read_back}
 use Rattle.sheets.proofs.Faultless.{Faultless, none_faultless}
 use Rattle.sheets.proofs.Good.{policy_written, sheet_begins, sheet_good, sheet_read, good_sheet}
-use Rattle.writer.specs.declared.Written.TheVariants.{Sheet as WrittenSheet}
+use Rattle.std.specs.Prelude.{Ok}
 use Rattle.writer.specs.Writer.{record_length, handed_number, handed_length, handed_body, handed_commands}
 use Rattle.writer.specs.Writer.{first_unholdable, asked_sheet}
 use Rattle.writer.proofs.Handed.{all_held, handed_count, none_unheld}
@@ -47,11 +47,11 @@ asked_reads_back policy n handed bytes e =
 
 -- .. so what is written is
 pub written_reads_back : (policy n : ℕ) (handed buffer : List ℕ) → Bytes handed → (long : ℕ) (after : List ℕ)
-    → Result policy n handed buffer (WrittenSheet long) after
+    → Result policy n handed buffer (Ok long) after
     → Reads (take long after) policy n (handed_commands handed n)
 written_reads_back policy n handed buffer bytes long after e =
     subst (λ (s : List ℕ). Reads s policy n (handed_commands handed n)) (sym (sheet_at_front policy n handed buffer e))
-    (asked_reads_back policy n handed bytes ((exactly policy n handed buffer (WrittenSheet long) after).0 e).0)
+    (asked_reads_back policy n handed bytes ((exactly policy n handed buffer (Ok long) after).0 e).0)
 
 -- what entry i of a sheet states is handed over in record i
 pub record Hands (s handed : List ℕ) (i : ℕ) : Type 0 where
@@ -115,9 +115,9 @@ module _ (s : List ℕ) (bytes : Bytes s) (good : first_fault s ≡ none) (hande
 
   -- .. so writing it into a buffer with room answers its length, and s stands over the front
   pub read_writes_again : (buffer : List ℕ) → length s ≤ length buffer
-      → Result (byte_at s 0) (count s) handed buffer (WrittenSheet (length s)) (over s buffer)
+      → Result (byte_at s 0) (count s) handed buffer (Ok (length s)) (over s buffer)
   read_writes_again buffer room =
-      (exactly (byte_at s 0) (count s) handed buffer (WrittenSheet (length s)) (over s buffer)).1
+      (exactly (byte_at s 0) (count s) handed buffer (Ok (length s)) (over s buffer)).1
       (hands_held, rw asks_again room, ap length (sym asks_again), ap (λ (l : List ℕ). over l buffer) (sym asks_again))
 
   pub begins_with : (buffer : List ℕ) → take (length s) (over s buffer) ≡ s

@@ -12,27 +12,28 @@ use borrow.Author.Tests.{leb-true, leb-false, le-leb, lt-leb}
 use Rattle.sheets.specs.Calls.{answer_number, over}
 use Rattle.sheets.proofs.Calls.{over_length, over_front, over_behind}
 use Rattle.sheets.proofs.Places.{Smallest, smallest_some}
-use Rattle.writer.specs.declared.Written.{Written}
-use Rattle.writer.specs.declared.Written.TheVariants.{Sheet, Malformed, Short}
+use Rattle.std.specs.Prelude.{Result as Outcome, Ok, Err}
+use Rattle.writer.specs.declared.WriteError.{WriteError}
+use Rattle.writer.specs.declared.WriteError.TheVariants.{Malformed, Short}
 use Rattle.writer.specs.Writer.{unholdable, first_unholdable, asked_sheet, Wrote, sheet_into, wrote_as, wrote}
 use Rattle.writer.specs.Writer.{written_number}
 
 -- what the contract says of an answer and of the buffer afterwards
-abbrev pub Result : (policy n : ℕ) (handed buffer : List ℕ) → Written → List ℕ → Type 0
+abbrev pub Result : (policy n : ℕ) (handed buffer : List ℕ) → Outcome ℕ WriteError → List ℕ → Type 0
 Result policy n handed buffer r after = wrote policy n handed buffer ≡ record { answer = r; buffer = after }
 
 -- two results that meet the contract are equal
-pub one_result : (policy n : ℕ) (handed buffer : List ℕ) {r r' : Written} {after after' : List ℕ}
+pub one_result : (policy n : ℕ) (handed buffer : List ℕ) {r r' : Outcome ℕ WriteError} {after after' : List ℕ}
     → Result policy n handed buffer r after → Result policy n handed buffer r' after' → (r ≡ r') × (after ≡ after')
 one_result policy n handed buffer e e' =
     (ap (λ (w : Wrote). w.answer) (sym e ∙ e'), ap (λ (w : Wrote). w.buffer) (sym e ∙ e'))
 
 -- what each answer says: 12 at its place, and nothing is written; 13, and nothing is written; 0, the sheet's length, and the sheet
 -- stands over the front of the buffer
-abbrev pub Says : (fault : Option ℕ) (sheet buffer : List ℕ) → Written → List ℕ → Type 0
-Says fault sheet buffer (Malformed place) after = (fault ≡ some place) × (after ≡ buffer)
-Says fault sheet buffer Short after = (fault ≡ none) × (length buffer < length sheet) × (after ≡ buffer)
-Says fault sheet buffer (Sheet long) after =
+abbrev pub Says : (fault : Option ℕ) (sheet buffer : List ℕ) → Outcome ℕ WriteError → List ℕ → Type 0
+Says fault sheet buffer (Err (Malformed place)) after = (fault ≡ some place) × (after ≡ buffer)
+Says fault sheet buffer (Err Short) after = (fault ≡ none) × (length buffer < length sheet) × (after ≡ buffer)
+Says fault sheet buffer (Ok long) after =
     (fault ≡ none) × (length sheet ≤ length buffer) × (long ≡ length sheet) × (after ≡ over sheet buffer)
 
 into_says : (sheet buffer : List ℕ) (fits : Bool) → leb (length sheet) (length buffer) ≡ fits
@@ -47,16 +48,16 @@ unfolding wrote_as
 as_says none sheet buffer = into_says sheet buffer _ refl
 as_says (some place) sheet buffer = (refl, refl)
 
-says_as : (fault : Option ℕ) (sheet buffer : List ℕ) (r : Written) (after : List ℕ) → Says fault sheet buffer r after
+says_as : (fault : Option ℕ) (sheet buffer : List ℕ) (r : Outcome ℕ WriteError) (after : List ℕ) → Says fault sheet buffer r after
     → wrote_as fault sheet buffer ≡ record { answer = r; buffer = after }
 unfolding wrote_as sheet_into
-says_as fault sheet buffer (Malformed place) after (f, w) = rw (f, w)
-says_as fault sheet buffer Short after (f, l, w) = rw (f, w, lt-leb _ _ l)
-says_as fault sheet buffer (Sheet long) after (f, l, s, w) = rw (f, s, w, le-leb _ _ l)
+says_as fault sheet buffer (Err (Malformed place)) after (f, w) = rw (f, w)
+says_as fault sheet buffer (Err Short) after (f, l, w) = rw (f, w, lt-leb _ _ l)
+says_as fault sheet buffer (Ok long) after (f, l, s, w) = rw (f, s, w, le-leb _ _ l)
 
 -- .. exactly
 module _ (policy n : ℕ) (handed buffer : List ℕ) where
-  pub exactly : (r : Written) (after : List ℕ)
+  pub exactly : (r : Outcome ℕ WriteError) (after : List ℕ)
       → Result policy n handed buffer r after
       ↔ Says (first_unholdable policy n handed) (asked_sheet policy n handed) buffer r after
   unfolding wrote
@@ -70,42 +71,42 @@ module _ (policy n : ℕ) (handed buffer : List ℕ) where
           e (as_says (first_unholdable policy n handed) (asked_sheet policy n handed) buffer)
 
   -- a refusal leaves the buffer as it was
-  pub malformed_writes_nothing : {place : ℕ} {after : List ℕ} → Result policy n handed buffer (Malformed place) after
+  pub malformed_writes_nothing : {place : ℕ} {after : List ℕ} → Result policy n handed buffer (Err (Malformed place)) after
       → after ≡ buffer
-  malformed_writes_nothing {place} {after} e = ((exactly (Malformed place) after).0 e).1
+  malformed_writes_nothing {place} {after} e = ((exactly (Err (Malformed place)) after).0 e).1
 
-  pub short_writes_nothing : {after : List ℕ} → Result policy n handed buffer Short after → after ≡ buffer
-  short_writes_nothing {after} e = ((exactly Short after).0 e).2
+  pub short_writes_nothing : {after : List ℕ} → Result policy n handed buffer (Err Short) after → after ≡ buffer
+  short_writes_nothing {after} e = ((exactly (Err Short) after).0 e).2
 
   -- the place that is named is the smallest at which there is something that no sheet can hold
-  pub place_smallest : {place : ℕ} {after : List ℕ} → Result policy n handed buffer (Malformed place) after
+  pub place_smallest : {place : ℕ} {after : List ℕ} → Result policy n handed buffer (Err (Malformed place)) after
       → Smallest (unholdable policy n handed) (suc n) place
   unfolding first_unholdable
   place_smallest {place} {after} e =
-      (smallest_some (unholdable policy n handed) (suc n) place).0 ((exactly (Malformed place) after).0 e).0
+      (smallest_some (unholdable policy n handed) (suc n) place).0 ((exactly (Err (Malformed place)) after).0 e).0
 
   -- the sheet's length is answered, it stands at the front, and the bytes behind it stay
-  module _ {long : ℕ} {after : List ℕ} (e : Result policy n handed buffer (Sheet long) after) where
+  module _ {long : ℕ} {after : List ℕ} (e : Result policy n handed buffer (Ok long) after) where
     pub length_told : long ≡ length (asked_sheet policy n handed)
-    length_told = ((exactly (Sheet long) after).0 e).2
+    length_told = ((exactly (Ok long) after).0 e).2
 
     pub sheet_at_front : take long after ≡ asked_sheet policy n handed
-    sheet_at_front = rw (length_told, ((exactly (Sheet long) after).0 e).3) (over_front (asked_sheet policy n handed) buffer)
+    sheet_at_front = rw (length_told, ((exactly (Ok long) after).0 e).3) (over_front (asked_sheet policy n handed) buffer)
 
     pub behind_stays : drop long after ≡ drop long buffer
-    behind_stays = rw (length_told, ((exactly (Sheet long) after).0 e).3) (over_behind (asked_sheet policy n handed) buffer)
+    behind_stays = rw (length_told, ((exactly (Ok long) after).0 e).3) (over_behind (asked_sheet policy n handed) buffer)
 
   -- the buffer's length never changes
-  pub same_length : (r : Written) (after : List ℕ) → Result policy n handed buffer r after → length after ≡ length buffer
-  same_length (Malformed place) after e = ap length (malformed_writes_nothing e)
-  same_length Short after e = ap length (short_writes_nothing e)
-  same_length (Sheet long) after e =
-      let (f, l, s, w) = (exactly (Sheet long) after).0 e in
+  pub same_length : (r : Outcome ℕ WriteError) (after : List ℕ) → Result policy n handed buffer r after → length after ≡ length buffer
+  same_length (Err (Malformed place)) after e = ap length (malformed_writes_nothing e)
+  same_length (Err Short) after e = ap length (short_writes_nothing e)
+  same_length (Ok long) after e =
+      let (f, l, s, w) = (exactly (Ok long) after).0 e in
       ap length w ∙ over_length (asked_sheet policy n handed) buffer l
 
 -- this paper's numbers: 12 with the place, 13 with nothing, 0 with the length
 pub numbers : (place long : ℕ)
-    → (written_number (Malformed place) ≡ answer_number 12 place) × (written_number Short ≡ answer_number 13 0)
-    × (written_number (Sheet long) ≡ answer_number 0 long)
+    → (written_number (Err (Malformed place)) ≡ answer_number 12 place) × (written_number (Err Short) ≡ answer_number 13 0)
+    × (written_number (Ok long) ≡ answer_number 0 long)
 unfolding written_number
 numbers place long = (refl, refl, refl)

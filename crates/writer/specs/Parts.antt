@@ -1,17 +1,17 @@
 -- What the writer's own parts ask and answer. `write` is held to specs/Writer.antt alone, so a reader who believes that file need
 -- not believe this one. Assumes nothing.
-use Rattle.std.specs.Prelude.{ℕ, suc, ◌*◌, ◌≤◌, ◌<◌, ◌≡◌, Bool, true, List, length}
+use Rattle.std.specs.Prelude.{ℕ, suc, ◌*◌, ◌≤◌, ◌<◌, ◌≡◌, Bool, true, Result, Ok, Err, List, length}
 use Rattle.std.proofs.Math.Option.{Option, none, some}
 use Rattle.sheets.specs.Sheets.{most_commands}
 use Rattle.sheets.specs.Faults.{known_number, body_length}
-use Rattle.writer.specs.declared.Found.{Found}
-use Rattle.writer.specs.declared.Found.TheVariants.{Long, Fault}
+use Rattle.writer.specs.declared.WriteError.{WriteError}
+use Rattle.writer.specs.declared.WriteError.TheVariants.{Malformed}
 use Rattle.writer.specs.Writer.{record_length, handed_number, handed_length, unholdable, asked_sheet}
 
 -- what is found, by the place of what no sheet can hold and the sheet's length
-unfoldable pub found_as : (fault : Option ℕ) (long : ℕ) → Found
-found_as none long = Long long
-found_as (some place) long = Fault place
+unfoldable pub found_as : (fault : Option ℕ) (long : ℕ) → Result ℕ WriteError
+found_as none long = Ok long
+found_as (some place) long = Err (Malformed place)
 
 -- the command with i commands before it is wholly there, with a known number and a body of that command's length
 pub record Held (handed : List ℕ) (i : ℕ) : Type 0 where

@@ -1,7 +1,7 @@
 -- Document 01: "The writer answers 12 at place 0 for policy or count, at i for a command i that no sheet can hold, then 13; a refusal
 -- writes nothing." Commands are handed over as records of six bytes, one behind the other: the command number, the length of the
 -- body, and four bytes of which so many are the body. Assumes nothing.
-use Rattle.std.specs.Prelude.{ℕ, zero, suc, ◌+◌, ◌*◌, Bool, true, false, not, ◌||◌, List, [], ◌∷◌, ◌++◌, leb, ltb, eqb, length, take, drop}
+use Rattle.std.specs.Prelude.{ℕ, zero, suc, ◌+◌, ◌*◌, Bool, true, false, not, ◌||◌, List, [], ◌∷◌, ◌++◌, leb, ltb, eqb, Result, Ok, Err, length, take, drop}
 use Rattle.std.proofs.Math.Option.{Option, none, some}
 use Rattle.rules.specs.Commands.{Command}
 use Rattle.sheets.specs.Bytes.{byte_at}
@@ -9,8 +9,8 @@ use Rattle.sheets.specs.Sheets.{most_commands, sheet_bytes}
 use Rattle.sheets.specs.Faults.{known_number, body_length, smallest}
 use Rattle.sheets.specs.Calls.{answer_number, over}
 use Rattle.sheets.specs.Reading.{read_command, read_policy}
-use Rattle.writer.specs.declared.Written.{Written}
-use Rattle.writer.specs.declared.Written.TheVariants.{Sheet, Malformed, Short}
+use Rattle.writer.specs.declared.WriteError.{WriteError}
+use Rattle.writer.specs.declared.WriteError.TheVariants.{Malformed, Short}
 
 abbrev pub record_length : ℕ
 record_length = 6
@@ -47,22 +47,22 @@ asked_sheet policy n handed = sheet_bytes (read_policy policy) (handed_commands 
 
 -- what is answered, and what the buffer holds afterwards
 pub record Wrote : Type 0 where
-  pub answer : Written
+  pub answer : Result ℕ WriteError
   pub buffer : List ℕ
 
 unfoldable pub sheet_into : (fits : Bool) (sheet buffer : List ℕ) → Wrote
-sheet_into true sheet buffer = record { answer = Sheet (length sheet); buffer = over sheet buffer }
-sheet_into false sheet buffer = record { answer = Short; buffer = buffer }
+sheet_into true sheet buffer = record { answer = Ok (length sheet); buffer = over sheet buffer }
+sheet_into false sheet buffer = record { answer = Err Short; buffer = buffer }
 
 unfoldable pub wrote_as : (fault : Option ℕ) (sheet buffer : List ℕ) → Wrote
 wrote_as none sheet buffer = sheet_into (leb (length sheet) (length buffer)) sheet buffer
-wrote_as (some place) sheet buffer = record { answer = Malformed place; buffer = buffer }
+wrote_as (some place) sheet buffer = record { answer = Err (Malformed place); buffer = buffer }
 
 unfoldable pub wrote : (policy n : ℕ) (handed buffer : List ℕ) → Wrote
 wrote policy n handed buffer = wrote_as (first_unholdable policy n handed) (asked_sheet policy n handed) buffer
 
 -- this paper's number for each case
-unfoldable pub written_number : Written → ℕ
-written_number (Sheet long) = answer_number 0 long
-written_number (Malformed place) = answer_number 12 place
-written_number Short = answer_number 13 0
+unfoldable pub written_number : Result ℕ WriteError → ℕ
+written_number (Ok long) = answer_number 0 long
+written_number (Err (Malformed place)) = answer_number 12 place
+written_number (Err Short) = answer_number 13 0

@@ -10,19 +10,11 @@ ghost use Rattle.writer.specs.Parts.{found_as, AllHeld, Ready, IsUnholdable};
 
 use shapes::parse::{body_length, known_number};
 
-// What the writer answers: the sheet was written, so many bytes; the place of what no sheet can hold; the buffer is too short.
-#[derive(Clone, Copy)]
-pub enum Written {
-    Sheet(u16),
+// Why no sheet was written: the place of what no sheet can hold, or a buffer that is too short.
+#[derive(Clone, Copy, PartialEq, Eq)]
+pub enum WriteError {
     Malformed(u16),
     Short,
-}
-
-// What is found in what is handed over: a sheet of so many bytes, or what no sheet can hold, by its place.
-#[derive(Clone, Copy)]
-enum Found {
-    Long(usize),
-    Fault(u16),
 }
 
 // Can no sheet hold the command with i commands before it?
@@ -42,29 +34,29 @@ fn no_command(handed: &[u8], i: usize) -> bool
     long != body_length(number)
 }
 
-// Looks through all that is handed over before anything is written.
-fn look_through(policy: u8, count: u16, handed: &[u8]) -> Found
+// Looks through all that is handed over before anything is written: the length of its sheet.
+fn look_through(policy: u8, count: u16, handed: &[u8]) -> Result<usize, WriteError>
     ensures { result ≡ found_as (first_unholdable policy count handed.now)
         (length (asked_sheet policy count handed.now)) }
 {
     if 2 < policy {
-        return Found::Fault(0);
+        return Err(WriteError::Malformed(0));
     }
     if 4096 < count {
-        return Found::Fault(0);
+        return Err(WriteError::Malformed(0));
     }
     let n = count as usize;
     let mut long = 3 + 3 * n;
     let mut i: usize = 0;
     while i < n {
         if no_command(handed, i) {
-            return Found::Fault((i + 1) as u16);
+            return Err(WriteError::Malformed((i + 1) as u16));
         }
         let at = 6 * i;
         long += body_length(handed[at]);
         i += 1;
     }
-    Found::Long(long)
+    Ok(long)
 }
 
 // A byte and a number's two bytes: a sheet's header, and each entry.
@@ -140,19 +132,14 @@ fn put_sheet(policy: u8, count: u16, handed: &[u8], out: &mut [u8])
     put_bodies(count, handed, &mut out[begin..]);
 }
 
-// Writes the sheet of the first `count` commands that are handed over, in records of six bytes.
-pub fn write(policy: u8, count: u16, handed: &[u8], out: &mut [u8]) -> Written
+// Writes the sheet of the first `count` commands that are handed over, in records of six bytes: its length.
+pub fn write(policy: u8, count: u16, handed: &[u8], out: &mut [u8]) -> Result<u16, WriteError>
     ensures { wrote policy count handed.now out.old ≡ record { answer = result; buffer = out.new } }
 {
-    let found = look_through(policy, count, handed);
-    match found {
-        Found::Fault(place) => Written::Malformed(place),
-        Found::Long(long) => {
-            if out.len() < long {
-                return Written::Short;
-            }
-            put_sheet(policy, count, handed, out);
-            Written::Sheet(long as u16)
-        }
+    let long = look_through(policy, count, handed)?;
+    if out.len() < long {
+        return Err(WriteError::Short);
     }
+    put_sheet(policy, count, handed, out);
+    Ok(long as u16)
 }

@@ -12,7 +12,7 @@ use lib.Seq.{ext_get_or, take-suc, take_all}
 use borrow.Author.Tests.{eqb-true, eqb-false}
 use Rattle.rules.specs.State.{Now, Slot, dead, live, slot, is_live, most_handles, count_live, new_handle, all_live}
 use Rattle.rules.proofs.NewHandle.{new_handle_dead, below_new_handle, new_handle_below, all_live_each}
-use Rattle.shapes.specs.declared.Free.TheVariants.{At, Full}
+use Rattle.std.specs.Prelude.{Some, None}
 use Rattle.handles.specs.Live.{bit, Words, BitSet, free_in, count_below, count_in}
 use Rattle.handles.proofs.LiveWordsDigits.{digit_small, digit_of_zero, digits_unique}
 use Rattle.handles.proofs.LiveWordsBits.{bit_at, first_of, full_of}
@@ -75,8 +75,8 @@ count_snoc (live k f ∷ slots) (live k' f') = ap suc (count_snoc slots (live k'
 module _ (words : List ℕ) (now : Now) (shown : (h : ℕ) → h < most_handles → bit words h ≡ is_live (slot now h))
     (slots : length now.handles ≡ most_handles) where
   -- all handles are live: none is free; otherwise the free one is the number that a new handle takes
-  pub free_shown : (all_live now ≡ true → free_in words ≡ Full)
-      × (all_live now ≡ false → free_in words ≡ At (record { 0 = new_handle now }))
+  pub free_shown : (all_live now ≡ true → free_in words ≡ None)
+      × (all_live now ≡ false → free_in words ≡ Some (record { 0 = new_handle now }))
   unfolding is_live
   free_shown = (
     λ e. full_of words (λ h l. shown h l ∙ (all_live_each now slots).0 e h l),

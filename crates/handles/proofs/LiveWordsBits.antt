@@ -14,7 +14,7 @@ use lib.Arith.{digits_div, digits_mod}
 use lib.Count.{ones, ones-le}
 use Rattle.rules.specs.State.{most_handles}
 use Rattle.sheets.proofs.Places.{smallest_some, smallest_none}
-use Rattle.shapes.specs.declared.Free.TheVariants.{At, Full}
+use Rattle.std.specs.Prelude.{Some, None}
 use Rattle.handles.specs.Live.{bit, Words, free_of, free_in, count_below, count_in, BitSet}
 use Rattle.handles.proofs.LiveWordsDigits.{digit, digit_small, ones_more}
 
@@ -66,13 +66,13 @@ few_ones words w = omega (arith, few 0 (omega arith), few 1 (omega arith), few 2
     few i l = ones-le 64 (get_or words i 0) (w.fit i l)
 
 -- no handle is dead: none is free
-pub full_of : (words : List ℕ) → ((h : ℕ) → h < most_handles → bit words h ≡ true) → free_in words ≡ Full
+pub full_of : (words : List ℕ) → ((h : ℕ) → h < most_handles → bit words h ≡ true) → free_in words ≡ None
 unfolding free_in free_of
 full_of words each = ap free_of ((smallest_none (λ h. not (bit words h)) most_handles).1 (λ h l. ap not (each h l)))
 
 -- the lowest dead handle is free
 pub first_of : (words : List ℕ) (h : ℕ) → h < most_handles → bit words h ≡ false →
-    ((j : ℕ) → j < h → bit words j ≡ true) → free_in words ≡ At (record { 0 = h })
+    ((j : ℕ) → j < h → bit words j ≡ true) → free_in words ≡ Some (record { 0 = h })
 unfolding free_in free_of
 first_of words h l dead lower =
     ap free_of

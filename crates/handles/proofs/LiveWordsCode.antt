@@ -20,7 +20,7 @@ use denote.Laws.{Is}
 use denote.Array.{Array}
 use denote.Plain.{UInt}
 use Rattle.rules.specs.State.{most_handles}
-use Rattle.shapes.specs.declared.Free.TheVariants.{At, Full}
+use Rattle.std.specs.Prelude.{Some, None}
 use Rattle.handles.specs.Live.{bit, Words, free_in, BitSet}
 use Rattle.handles.proofs.LiveWordsDigits.{digit, digit_small, digit_and, digit_or, complement, digit_complement}
 use Rattle.handles.proofs.LiveWordsDigits.{digit_power, digit_power_other, free_below, free_at}
@@ -93,7 +93,7 @@ module _ (words : List ℕ) (w : Words words) (i : ℕ) (l : i < 4) (below : Liv
           (eq-eqb (digit (get_or words i 0) j) 1 (free_below 64 (get_or words i 0) j (w.fit i l) (omega arith)))
 
   -- a word that is not full has the free number
-  pub free_found : zeros < 64 → At (record { 0 = i * 64 + zeros }) ≡ free_in words
+  pub free_found : zeros < 64 → Some (record { 0 = i * 64 + zeros }) ≡ free_in words
   free_found k =
       sym
       (first_of words (i * 64 + zeros) (omega arith)
@@ -104,5 +104,5 @@ module _ (words : List ℕ) (w : Words words) (i : ℕ) (l : i < 4) (below : Liv
   word_full k h j = live_below h (omega arith)
 
 -- after four full words none is free
-pub none_free : (words : List ℕ) (i : ℕ) → 4 ≤ i → LiveBelow words i → Full ≡ free_in words
+pub none_free : (words : List ℕ) (i : ℕ) → 4 ≤ i → LiveBelow words i → None ≡ free_in words
 none_free words i l below = sym (full_of words (λ h k. below h (omega arith)))

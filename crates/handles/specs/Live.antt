@@ -1,10 +1,10 @@
 -- The live handles as four words of 64 bits: handle h is bit h % 64 of word h / 64. Assumes nothing.
-use Rattle.std.specs.Prelude.{ℕ, zero, suc, ◌/◌, ◌%◌, ◌^◌, ◌<◌, ◌≡◌, Bool, not, cond, List, eqb, length, get_or}
-use Rattle.std.proofs.Math.Option.{Option, none, some}
+use Rattle.std.specs.Prelude.{ℕ, zero, suc, ◌/◌, ◌%◌, ◌^◌, ◌<◌, ◌≡◌, Some, None, Bool, not, cond, List, eqb, length, get_or}
+use Rattle.std.specs.Prelude.{Option}
+use Rattle.std.proofs.Math.Option.{Option as Found, none, some}
 use Rattle.rules.specs.State.{most_handles}
 use Rattle.sheets.specs.Faults.{smallest}
-use Rattle.shapes.specs.declared.Free.{Free}
-use Rattle.shapes.specs.declared.Free.TheVariants.{At, Full}
+use Rattle.shapes.specs.declared.HandleNo.{HandleNo}
 
 unfoldable pub bit : List ℕ → (h : ℕ) → Bool
 bit words h = eqb (get_or words (h / 64) 0 / 2 ^ (h % 64) % 2) 1
@@ -14,12 +14,12 @@ pub record Words (words : List ℕ) : Type 0 where
   pub four : length words ≡ 4
   pub fit : (i : ℕ) → i < 4 → get_or words i 0 < 2 ^ 64
 
-unfoldable pub free_of : Option ℕ → Free
-free_of none = Full
-free_of (some h) = At (record { 0 = h })
+unfoldable pub free_of : Found ℕ → Option HandleNo
+free_of none = None
+free_of (some h) = Some (record { 0 = h })
 
 -- "A new handle takes the lowest number not live"
-unfoldable pub free_in : List ℕ → Free
+unfoldable pub free_in : List ℕ → Option HandleNo
 free_in words = free_of (smallest (λ h. not (bit words h)) most_handles)
 
 -- how many of the first n handles are live

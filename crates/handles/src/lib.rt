@@ -4,7 +4,7 @@
 ghost use Rattle.std.specs.Prelude.{◌≡◌, true, false};
 ghost use Rattle.handles.specs.Live.{bit, free_in, count_in, BitSet};
 
-use shapes::{Free, HandleNo};
+use shapes::HandleNo;
 
 // How many handles are live: the ones of the four words.
 pub fn count(live: [u64; 4]) -> u32
@@ -17,18 +17,18 @@ pub fn count(live: [u64; 4]) -> u32
 }
 
 // The lowest number not live: the trailing zeros of the complement of the first word that is not full.
-pub fn free(live: [u64; 4]) -> Free
+pub fn free(live: [u64; 4]) -> Option<HandleNo>
     ensures { result ≡ free_in live }
 {
     let mut word: usize = 0;
     while word < 4 {
         let zeros = u64::trailing_zeros(!live[word]);
         if zeros < 64 {
-            return Free::At(HandleNo((word * 64 + zeros as usize) as u8));
+            return Some(HandleNo((word * 64 + zeros as usize) as u8));
         }
         word += 1;
     }
-    Free::Full
+    None
 }
 
 pub fn is_live(live: [u64; 4], h: HandleNo) -> bool

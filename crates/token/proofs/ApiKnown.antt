@@ -10,7 +10,7 @@ use lib.ListN.{length, get_or, drop, drop_of_length-le}
 use lib.Seq.{drop-cons}
 use Rattle.rules.specs.State.{most_terms}
 use Rattle.shapes.specs.declared.Entry.{Entry}
-use Rattle.token.specs.declared.Origin.TheVariants.{NoKey}
+use Rattle.std.specs.Prelude.{Some, None}
 use Rattle.token.specs.Shows.{blank_entry}
 use Rattle.shapes.specs.Entries.{key_of, is_own_entry}
 use Rattle.token.specs.Known.{is_marked, marked_keys, is_key_no, origin_of, origin_in}
@@ -70,7 +70,7 @@ sought_none entries k = record { in_table = omega arith; rest = refl }
 
 module _ (entries : List Entry) (k i : ℕ) (whole : length entries ≡ most_terms) (so_far : Sought entries k i) where
   pub sought_here : i < most_terms → is_key_no k (get_or entries i blank_entry).term ≡ true
-      → origin_of (is_own_entry (get_or entries i blank_entry)) ≡ origin_in entries k
+      → Some (origin_of (is_own_entry (get_or entries i blank_entry))) ≡ origin_in entries k
   unfolding origin_in
   sought_here h e = let l : i < length entries = omega arith in rw (so_far.rest, drop-cons entries i blank_entry, e)
 
@@ -80,6 +80,6 @@ module _ (entries : List Entry) (k i : ℕ) (whole : length entries ≡ most_ter
       let l : i < length entries = omega arith in
       record { in_table = omega arith; rest = rw (so_far.rest, add-one, drop-cons entries i blank_entry, e) }
 
-  pub sought_all : most_terms ≤ i → NoKey ≡ origin_in entries k
+  pub sought_all : most_terms ≤ i → None ≡ origin_in entries k
   unfolding origin_in
   sought_all h = let l : length entries ≤ i = omega arith in rw (so_far.rest, drop_of_length-le entries l)

@@ -14,8 +14,8 @@ use Rattle.sheets.specs.Bytes.{two}
 use Rattle.sheets.specs.Reports.{keys_bytes}
 use Rattle.sheets.specs.Calls.{answer_number, over}
 use Rattle.shapes.specs.declared.Entry.{Entry}
-use Rattle.token.specs.declared.Listed.{Listed}
-use Rattle.token.specs.declared.Listed.TheVariants.{Keys, Short}
+use Rattle.std.specs.Prelude.{Result, Ok, Err}
+use Rattle.token.specs.declared.Short.{Short}
 use Rattle.token.specs.Shows.{blank_entry}
 use Rattle.shapes.specs.Entries.{key_of}
 use Rattle.token.specs.Known.{is_marked, marked_keys, listed_as, listed_number, ListedInto}
@@ -92,24 +92,24 @@ module _ (entries : List Entry) (before : List ℕ) (i at : ℕ) (out : List ℕ
 
 -- the list in a buffer that is too short, and in one that has room
 module _ (keys before : List ℕ) (count : ℕ) (counts : count ≡ length keys) where
-  pub listed_short : length before < 2 * count → ListedInto keys before before Short
+  pub listed_short : length before < 2 * count → ListedInto keys before before (Err (record {}))
   listed_short h =
       let e : leb (2 * length keys) (length before) ≡ false = lt-leb (2 * length keys) (length before) (omega arith) in
       record { answered = rw e; written = rw e }
 
   pub listed_whole : 2 * count ≤ length before → (after : List ℕ) → after ≡ over (keys_bytes keys) before
-      → ListedInto keys before after (Keys count)
+      → ListedInto keys before after (Ok count)
   listed_whole h after w =
       let e : leb (2 * length keys) (length before) ≡ true = le-leb (2 * length keys) (length before) (omega arith) in
       record { answered = rw (e, counts); written = rw e w }
 
 -- two results that meet what is said of the list are equal, answer and buffer
-pub listed_unique : {keys before after after' : List ℕ} {r r' : Listed} → ListedInto keys before after r
+pub listed_unique : {keys before after after' : List ℕ} {r r' : Result ℕ Short} → ListedInto keys before after r
     → ListedInto keys before after' r' → (r ≡ r') × (after ≡ after')
 listed_unique p q = (p.answered ∙ sym q.answered, p.written ∙ sym q.written)
 
 -- its number: 0 with how many keys there are, or 13
-pub listed_says : {keys before after : List ℕ} {r : Listed} → ListedInto keys before after r
+pub listed_says : {keys before after : List ℕ} {r : Result ℕ Short} → ListedInto keys before after r
     → listed_number r ≡ cond (leb (2 * length keys) (length before)) (answer_number 0 (length keys)) (answer_number 13 0)
 listed_says {keys} {before} p =
     ap listed_number p.answered ∙ each (leb (2 * length keys) (length before))

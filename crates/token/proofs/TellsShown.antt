@@ -15,7 +15,7 @@ use Rattle.shapes.specs.declared.Entry.{Entry}
 use Rattle.shapes.specs.declared.Term.{Term as Kind}
 use Rattle.shapes.specs.declared.Term.TheVariants.{Data, Key, Seal}
 use Rattle.token.specs.declared.Token.{Token}
-use Rattle.token.specs.declared.Origin.TheVariants.{NoKey}
+use Rattle.std.specs.Prelude.{Some, None}
 use Rattle.handles.specs.Live.{count_in}
 use Rattle.token.specs.Shows.{Shows, blank_entry, is_own, entry_of, entry_for}
 use Rattle.token.specs.Known.{is_key_no, origin_of, origin_in}
@@ -40,7 +40,7 @@ AllMarked entries k own = (i : ℕ) → (get_or entries i blank_entry).term ≡ 
 -- the first entry of key k tells its origin
 origin_found : (entries : List Entry) (k : ℕ) (own : Bool) → AllMarked entries k own → (i : ℕ)
     → (get_or entries i blank_entry).term ≡ Key (record { 0 = k })
-    → origin_in entries k ≡ origin_of own
+    → origin_in entries k ≡ Some (origin_of own)
 unfolding origin_in AllMarked
 origin_found [] k own all i e = cc
 origin_found (x ∷ entries) k own all zero e = rw (is_key_here k x.term e, all 0 e)
@@ -51,7 +51,7 @@ origin_found (x ∷ entries) k own all (suc i) e =
 
 -- and where no entry is key k's there is no such key
 origin_none : (entries : List Entry) (k : ℕ) → ((i : ℕ) → (get_or entries i blank_entry).term ≡ Key (record { 0 = k }) → ⊥)
-    → origin_in entries k ≡ NoKey
+    → origin_in entries k ≡ None
 unfolding origin_in
 origin_none [] k no_entry = refl
 origin_none (x ∷ entries) k no_entry =
@@ -62,7 +62,7 @@ origin_none (x ∷ entries) k no_entry =
 module _ {t : Token} {s : State} (sound : Sound s) (shown : Shows t s) where
   -- a key that was created has the origin that it was created with
   pub origin_shown : (k : ℕ) → k < length s.now.origins
-      → origin_in t.table.entries k ≡ origin_of (is_own (get_elem? s.now.origins k))
+      → origin_in t.table.entries k ≡ Some (origin_of (is_own (get_elem? s.now.origins k)))
   unfolding entry_of entry_for AllMarked
   origin_shown k created =
       let (i, at, low) = in_at (sound.counted.counted_keys created) in
@@ -74,7 +74,7 @@ module _ {t : Token} {s : State} (sound : Sound s) (shown : Shows t s) where
       i (ap (λ (x : Entry). x.term) is ∙ rw at refl)
 
   -- a number that no command created is no key's
-  pub no_origin : (k : ℕ) → length s.now.origins ≤ k → origin_in t.table.entries k ≡ NoKey
+  pub no_origin : (k : ℕ) → length s.now.origins ≤ k → origin_in t.table.entries k ≡ None
   no_origin k not_created =
       origin_none t.table.entries k
       (λ i e. omega (arith, sound.counted.keys_counted (at_in s.now.table i (key_at shown i k e))))

@@ -5,7 +5,7 @@ ghost use Rattle.sheets.specs.Calls.{over};
 ghost use Rattle.handles.specs.Live.{count_in};
 ghost use Rattle.token.specs.Known.{is_marked, marked_keys, ListedInto, is_key_no, origin_of, origin_in};
 
-use crate::{Listed, Origin, Table, Token};
+use crate::{Origin, Short, Table, Token};
 use handles::count;
 use shapes::entries::key_of;
 use shapes::{Entry, KeyNo, Term};
@@ -60,15 +60,15 @@ fn write_keys(table: Table, out: &mut [u8])
 }
 
 // The known keys in ascending order, two bytes each, where the buffer has room.
-pub fn known_keys(token: Token, out: &mut [u8]) -> Listed
+pub fn known_keys(token: Token, out: &mut [u8]) -> Result<u16, Short>
     ensures { ListedInto (marked_keys token.table.entries) out.old out.new result }
 {
     let count = known_count(token);
     if out.len() < 2 * (count as usize) {
-        return Listed::Short;
+        return Err(Short);
     }
     write_keys(token.table, out);
-    Listed::Keys(count)
+    Ok(count)
 }
 
 fn has_number(entry: Entry, k: KeyNo) -> bool
@@ -88,8 +88,8 @@ fn origin_mark(own: bool) -> Origin
     if own { Origin::Own } else { Origin::Generated }
 }
 
-// Where a key comes from.
-pub fn origin(token: Token, k: KeyNo) -> Origin
+// Where a key comes from; none for a number that is no key's.
+pub fn origin(token: Token, k: KeyNo) -> Option<Origin>
     ensures { result ≡ origin_in token.table.entries k.0 }
 {
     let table = token.table;
@@ -98,11 +98,11 @@ pub fn origin(token: Token, k: KeyNo) -> Origin
         let entry = table.entries[i];
         if has_number(entry, k) {
             let marks = entry.marks;
-            return origin_mark(marks.own);
+            return Some(origin_mark(marks.own));
         }
         i += 1;
     }
-    Origin::NoKey
+    None
 }
 
 // How many handles are live.

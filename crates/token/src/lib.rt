@@ -43,19 +43,15 @@ pub struct Token {
     pub hands: Hands,
 }
 
-// The list of known keys in a buffer: so many were written, or the buffer is too short.
-#[derive(Clone, Copy)]
-pub enum Listed {
-    Keys(u16),
-    Short,
-}
+// The buffer is too short for the list of known keys.
+#[derive(Clone, Copy, PartialEq, Eq)]
+pub struct Short;
 
 // Where a key comes from.
-#[derive(Clone, Copy)]
+#[derive(Clone, Copy, PartialEq, Eq)]
 pub enum Origin {
     Generated,
     Own,
-    NoKey,
 }
 
 // The token with no term and no live handle.

@@ -2,13 +2,14 @@
 use Prim.Native.Nat.{ℕ, ◌<◌}
 use mathlib.Core.Path.{◌≡◌, refl}
 use mathlib.Core.List.{List}
-use mathlib.Core.Bool.{Bool, true, false, cond}
 use native.Mathlib.Omega.{arith}
 use lib.ListN.{get_or}
 use Rattle.shapes.specs.declared.Entry.{Entry}
 use Rattle.shapes.specs.declared.Slot.{Slot}
 use Rattle.token.specs.declared.Table.{Table}
 use Rattle.token.specs.declared.Hands.{Hands}
+use Rattle.running.specs.declared.Looks.{Looks}
+use Rattle.running.specs.declared.Looks.TheVariants.{AtHandles, AtPayload, AtTerm, ByCaller}
 use Rattle.running.specs.declared.Names.{Names}
 use Rattle.deciding.specs.declared.Equal.{Equal}
 use Rattle.shapes.specs.declared.Command.{Command}
@@ -16,18 +17,18 @@ use Rattle.shapes.specs.declared.Command.TheVariants.{Generate, Wrap, Unwrap, En
 use Rattle.shapes.specs.declared.Command.TheVariants.{OwnKey, OwnData, Seal}
 use Rattle.token.specs.Shows.{blank_entry, blank_slot, seal_code}
 use Rattle.deciding.specs.Decisions.{decided}
-use Rattle.running.specs.Views.{seen_in, names_of, first_at, other_at, aim_of, aim_in, equal_in, view_of}
+use Rattle.running.specs.Views.{seen_in, names_of, first_at, other_at, aim_of, aim_in, aim_at, equal_in, view_of}
 
 -- a seal's code is above 0
-code_above : (own handled : Bool) (k p l q r : ℕ) →
-    0 < cond own (seal_code k p) (cond handled (seal_code l q) (seal_code l r))
-code_above true handled k p l q r = omega arith
-code_above false true k p l q r = omega arith
-code_above false false k p l q r = omega arith
+code_above : (looks : Looks) (k p l q m r : ℕ) → 0 < aim_at looks (seal_code k p) (seal_code l q) (seal_code m r)
+code_above AtHandles k p l q m r = omega arith
+code_above AtPayload k p l q m r = omega arith
+code_above AtTerm k p l q m r = omega arith
+code_above ByCaller k p l q m r = omega arith
 
 pub aim_positive : (n : Names) (a b : Slot) (first : Entry) → 0 < aim_in n a b first
 unfolding aim_in
-aim_positive n a b first = code_above n.own n.handled _ _ _ _ _
+aim_positive n a b first = code_above n.looks _ _ _ _ _ _
 
 -- what is decided on what is read is what is decided on the view: a command asks for no more than the two terms that it looks at
 module _ (policy : ℕ) (table : Table) (hands : Hands) (codes : List ℕ) where

@@ -44,9 +44,9 @@ pub mod ChangedCommands
 pub mod Changed
 pub mod ChangedRoom
 pub mod ApiLook
+pub mod Stored
 pub mod StepShown
 pub mod RecordsWritten
-pub mod Stored
 pub mod Advancing
 pub mod OneCommand
 pub mod CallShown

@@ -3,7 +3,6 @@ pub mod Views
 pub mod Leaks
 pub mod Applied
 pub mod Direct
-pub mod Stores
 pub mod Advance
 pub mod Run
 pub mod OneCommand

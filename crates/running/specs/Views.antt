@@ -14,7 +14,11 @@ use Rattle.deciding.specs.declared.Lookup.{Lookup}
 use Rattle.deciding.specs.declared.Lookup.TheVariants.{There, Nothing}
 use Rattle.deciding.specs.declared.Equal.{Equal}
 use Rattle.deciding.specs.declared.Equal.TheVariants.{At, New}
+use Rattle.running.specs.declared.Looks.{Looks}
+use Rattle.running.specs.declared.Looks.TheVariants.{AtHandles, AtPayload, AtTerm, ByCaller}
 use Rattle.running.specs.declared.Names.{Names}
+use Rattle.token.specs.declared.Token.{Token}
+use Rattle.deciding.specs.Decisions.{decided}
 use Rattle.deciding.specs.declared.View.{View}
 use Rattle.shapes.specs.declared.Command.{Command}
 use Rattle.shapes.specs.declared.Command.TheVariants.{Generate, Wrap, Unwrap, Encrypt, Decrypt, Corrupt, Destroy, OwnKey, OwnData, Seal}
@@ -30,16 +34,16 @@ abbrev pub no_term : TermNo
 no_term = record { 0 = 0 }
 
 unfoldable pub names_of : Command → Names
-names_of (Generate f) = record { a = no_handle; b = no_handle; t = no_term; u = no_term; handled = false; opens = false; own = false }
-names_of (Wrap a b) = record { a = a; b = b; t = no_term; u = no_term; handled = true; opens = false; own = false }
-names_of (Unwrap h t f) = record { a = h; b = no_handle; t = t; u = no_term; handled = false; opens = true; own = false }
-names_of (Encrypt h t) = record { a = h; b = no_handle; t = t; u = no_term; handled = false; opens = false; own = false }
-names_of (Decrypt h t) = record { a = h; b = no_handle; t = t; u = no_term; handled = false; opens = true; own = false }
-names_of (Corrupt h) = record { a = h; b = no_handle; t = no_term; u = no_term; handled = true; opens = false; own = false }
-names_of (Destroy h) = record { a = h; b = no_handle; t = no_term; u = no_term; handled = false; opens = false; own = false }
-names_of OwnKey = record { a = no_handle; b = no_handle; t = no_term; u = no_term; handled = false; opens = false; own = true }
-names_of OwnData = record { a = no_handle; b = no_handle; t = no_term; u = no_term; handled = false; opens = false; own = true }
-names_of (Seal k t) = record { a = no_handle; b = no_handle; t = k; u = t; handled = false; opens = false; own = true }
+names_of (Generate f) = record { a = no_handle; b = no_handle; t = no_term; u = no_term; looks = AtTerm }
+names_of (Wrap a b) = record { a = a; b = b; t = no_term; u = no_term; looks = AtHandles }
+names_of (Unwrap h t f) = record { a = h; b = no_handle; t = t; u = no_term; looks = AtPayload }
+names_of (Encrypt h t) = record { a = h; b = no_handle; t = t; u = no_term; looks = AtTerm }
+names_of (Decrypt h t) = record { a = h; b = no_handle; t = t; u = no_term; looks = AtPayload }
+names_of (Corrupt h) = record { a = h; b = no_handle; t = no_term; u = no_term; looks = AtHandles }
+names_of (Destroy h) = record { a = h; b = no_handle; t = no_term; u = no_term; looks = AtTerm }
+names_of OwnKey = record { a = no_handle; b = no_handle; t = no_term; u = no_term; looks = ByCaller }
+names_of OwnData = record { a = no_handle; b = no_handle; t = no_term; u = no_term; looks = ByCaller }
+names_of (Seal k t) = record { a = no_handle; b = no_handle; t = k; u = t; looks = ByCaller }
 
 abbrev pub inside : ℕ → ℕ
 inside i = cond (ltb i most_terms) i 0
@@ -106,19 +110,35 @@ view_of table hands codes c =
       terms = table.terms;
     }
 
--- the view, of what was read
 -- the places of the two terms that it looks at: of its handles' terms, or of the first one and what that seals, or of the two it names
+abbrev pub first_no : Looks → (of_handle named : ℕ) → ℕ
+first_no AtHandles of_handle named = of_handle
+first_no AtPayload of_handle named = named
+first_no AtTerm of_handle named = named
+first_no ByCaller of_handle named = named
+
 unfoldable pub first_at : Names → (a : Slot) → ℕ
-first_at names a = inside (cond names.handled a.term.0 names.t.0)
+first_at names a = inside (first_no names.looks a.term.0 names.t.0)
+
+abbrev pub other_no : Looks → (of_handle of_payload named : ℕ) → ℕ
+other_no AtHandles of_handle of_payload named = of_handle
+other_no AtPayload of_handle of_payload named = of_payload
+other_no AtTerm of_handle of_payload named = named
+other_no ByCaller of_handle of_payload named = named
 
 unfoldable pub other_at : Names → (b : Slot) → (first : Entry) → ℕ
-other_at names b first = inside (cond names.handled b.term.0 (cond names.opens (payload_no first.term).0 names.u.0))
+other_at names b first = inside (other_no names.looks b.term.0 (payload_no first.term).0 names.u.0)
 
 -- the code that it looks for: of the seal that it would make, of any where it makes none
+abbrev pub aim_at : Looks → (of_handles of_caller of_term : ℕ) → ℕ
+aim_at AtHandles of_handles of_caller of_term = of_handles
+aim_at AtPayload of_handles of_caller of_term = of_term
+aim_at AtTerm of_handles of_caller of_term = of_term
+aim_at ByCaller of_handles of_caller of_term = of_caller
+
 unfoldable pub aim_in : Names → (a b : Slot) → (first : Entry) → ℕ
 aim_in names a b first =
-    cond names.own (seal_code (key_of first.term).0 names.u.0)
-    (cond names.handled (seal_code a.key.0 b.term.0) (seal_code a.key.0 names.t.0))
+    aim_at names.looks (seal_code a.key.0 b.term.0) (seal_code (key_of first.term).0 names.u.0) (seal_code a.key.0 names.t.0)
 
 -- what is read, as a view: each of the two terms stands wherever a command may look for it
 unfoldable pub seen_in : Names → (live : List ℕ) → (a b : Slot) → (first other : Entry) → Equal → (terms : ℕ) → View
@@ -135,3 +155,7 @@ seen_in names live a b first other equal terms =
       free = free_in live;
       terms = terms;
     }
+
+-- what is read stands for the view: whatever the policy, the same is decided on it
+abbrev pub SeesAlike : Token → Command → View → Type 0
+SeesAlike t c seen = (policy : ℕ) → decided policy c seen ≡ decided policy c (view_of t.table t.hands t.links.codes c)

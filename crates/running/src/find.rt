@@ -6,6 +6,7 @@ ghost use Rattle.running.specs.Views.{Findable, equal_in};
 
 use deciding::Equal;
 use shapes::TermNo;
+use token::Links;
 
 // The bucket of a code.
 pub fn bucket_of(code: u32) -> usize
@@ -16,24 +17,19 @@ pub fn bucket_of(code: u32) -> usize
 }
 
 // The number of the seal with this code, where there is one.
-pub fn find<'a>(
-    heads: &'a [u16; 1024],
-    chain: &'a [u16; 1024],
-    codes: &'a [u32; 1024],
-    code: u32,
-) -> Equal
-    requires findable { Findable heads.now chain.now codes.now }
+pub fn find(links: &Links, code: u32) -> Equal
+    requires findable { Findable links.now.heads links.now.chain links.now.codes }
     requires code_nonzero { 0 < code }
-    ensures { result ≡ equal_in codes.now code }
+    ensures { result ≡ equal_in links.now.codes code }
 {
-    let bucket = bucket_of(code);
-    let mut link = heads[bucket];
+    let mut link = links.heads[bucket_of(code)];
     while link != 0 {
-        let i = (link - 1) as usize;
-        if codes[i] == code {
-            return Equal::At(TermNo(link - 1));
+        let number = link - 1;
+        let i = number as usize;
+        if links.codes[i] == code {
+            return Equal::At(TermNo(number));
         }
-        link = chain[i];
+        link = links.chain[i];
     }
     Equal::New
 }

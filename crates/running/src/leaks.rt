@@ -8,17 +8,16 @@ ghost use Rattle.running.specs.Applied.{TableFollowed};
 
 use shapes::entries::{key_of, payload_no};
 use shapes::{Entry, Marks, Term, TermNo};
-use token::Table;
+use token::{Links, Table};
 
-// The table with everything held that the leak of term t leads to.
-pub fn follow<'a>(table: Table, newest: &'a [u16; 1024], older: &'a [u16; 1024], t: TermNo) -> Table
-    requires { Followable table.entries newest.now older.now table.terms t.0 (key_of (kind_at table.entries t.0)) }
-    ensures { TableFollowed table t.0 result }
+// Marks everything held that the leak of term t leads to.
+pub fn follow(table: &mut Table, links: &Links, t: TermNo)
+    requires { Followable table.old.entries links.now.newest links.now.older table.old.terms t.0 (key_of (kind_at table.old.entries t.0)) }
+    ensures { TableFollowed table.old t.0 table.new }
 {
-    let mut next = table;
     let at = t.0 as usize;
-    let leak = next.entries[at];
-    next.entries[at] = known(leak);
+    let leak = table.entries[at];
+    table.entries[at] = known(leak);
     let mut stack = [0u16; 1024];
     stack[0] = key_of(leak).0;
     let mut depth: usize = 1;
@@ -26,20 +25,20 @@ pub fn follow<'a>(table: Table, newest: &'a [u16; 1024], older: &'a [u16; 1024],
     loop {
         if link == 0 {
             if depth == 0 {
-                return next;
+                return;
             }
             depth -= 1;
-            link = newest[stack[depth] as usize];
+            link = links.newest[stack[depth] as usize];
             continue;
         }
         let i = (link - 1) as usize;
-        link = older[i];
-        let q = payload_no(next.entries[i]).0 as usize;
-        let inner = next.entries[q];
+        link = links.older[i];
+        let q = payload_no(table.entries[i]).0 as usize;
+        let inner = table.entries[q];
         if !leaks(inner) {
             continue;
         }
-        next.entries[q] = known(inner);
+        table.entries[q] = known(inner);
         stack[depth] = key_of(inner).0;
         depth += 1;
     }
@@ -49,13 +48,7 @@ pub fn follow<'a>(table: Table, newest: &'a [u16; 1024], older: &'a [u16; 1024],
 fn leaks(entry: Entry) -> bool
     ensures { result ≡ (is_key_entry entry && not (is_held entry)) }
 {
-    let term = entry.term;
-    let marks = entry.marks;
-    match term {
-        Term::Data => false,
-        Term::Key(_) => !marks.held,
-        Term::Seal(_, _) => false,
-    }
+    matches!(entry.term, Term::Key(_)) && !entry.marks.held
 }
 
 // The entry, held.
@@ -63,12 +56,9 @@ fn known(entry: Entry) -> Entry
     ensures { result ≡ entry_with entry.term true (is_own_entry entry) }
 {
     let term = entry.term;
-    let marks = entry.marks;
-    Entry {
-        term,
-        marks: Marks {
-            held: true,
-            own: marks.own,
-        },
-    }
+    let marks = Marks {
+        held: true,
+        own: entry.marks.own,
+    };
+    Entry { term, marks }
 }

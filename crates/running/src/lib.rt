@@ -2,6 +2,7 @@
 #![tactic(auto)]
 
 mod advance;
+mod apply;
 mod find;
 mod leaks;
 mod link;
@@ -15,44 +16,27 @@ use advance::advance;
 use one::{one_command, value_in};
 use reader::{Checked, check};
 use shapes::parse::not_a_call;
-use shapes::{Entry, HandleNo, Slot, TermNo};
+use shapes::{HandleNo, TermNo};
 use token::{Token, fresh};
 
-// The numbers that a command names, 0 where it names none. The terms that it looks at are its handles' own, or the first one and
-// what that seals, or the two that it names; and it is the caller's own computing, or the token's.
+// The terms that a command looks at: its handles' own; the first that it names and what that seals; or the two that it names, of which
+// a command of the token has one. In the caller's own computing the first of the two is a key, under which it seals.
+#[derive(Clone, Copy)]
+pub enum Looks {
+    AtHandles,
+    AtPayload,
+    AtTerm,
+    ByCaller,
+}
+
+// The numbers that a command names, 0 where it names none, and where it looks.
 #[derive(Clone, Copy)]
 pub struct Names {
     pub a: HandleNo,
     pub b: HandleNo,
     pub t: TermNo,
     pub u: TermNo,
-    pub handled: bool,
-    pub opens: bool,
-    pub own: bool,
-}
-
-// The slot that a change stores, and the live words that it leaves.
-#[derive(Clone, Copy)]
-pub struct SlotPut {
-    pub number: HandleNo,
-    pub slot: Slot,
-    pub live: [u64; 4],
-}
-
-// The entry that a change stores, and the counts that it leaves.
-#[derive(Clone, Copy)]
-pub struct EntryPut {
-    pub at: usize,
-    pub entry: Entry,
-    pub terms: u16,
-    pub keys: u16,
-}
-
-// The term whose leak is to be followed.
-#[derive(Clone, Copy)]
-pub enum Leak {
-    Of(TermNo),
-    Nothing,
+    pub looks: Looks,
 }
 
 // What the direct call gives back.
@@ -82,7 +66,8 @@ pub fn run(sheet: &[u8], records: &mut [u8; 12288]) -> Ran
             token: start,
         };
     };
-    let token = advance(start, policy, sheet, n, records);
+    let mut token = start;
+    advance(&mut token, policy, sheet, n, records);
     Ran { checked, token }
 }
 
@@ -101,7 +86,8 @@ pub fn call(token: Token, policy: u8, number: u8, body: &[u8]) -> Called
     let sheet = one_command(policy, number, body);
     let end = 6 + body.len();
     let mut said = [0u8; 3];
-    let next = advance(token, policy, &sheet[0..end], 1, &mut said);
+    let mut next = token;
+    advance(&mut next, policy, &sheet[0..end], 1, &mut said);
     Called {
         token: next,
         answer: said[0],

@@ -1,44 +1,32 @@
 // The links of a new seal: it goes to the front of its two chains, of its key and of its bucket.
 ghost use Rattle.std.specs.Prelude.{◌≡◌, suc, ◌<◌, get_or, set};
 ghost use Rattle.rules.specs.State.{most_terms};
-ghost use Rattle.running.specs.Stores.{Linkable, links_stored};
+ghost use Rattle.running.specs.Applied.{linked};
 
 use crate::find::bucket_of;
 use crate::look::code;
-use deciding::Change;
+use shapes::{KeyNo, TermNo};
+use token::Links;
 
 // Puts a number before the first of a chain.
-fn first<'a>(firsts: &'a mut [u16; 1024], nexts: &'a mut [u16; 1024], of: usize, number: u16)
+fn first(firsts: &mut [u16; 1024], nexts: &mut [u16; 1024], of: usize, number: u16)
     requires of_lt_most_terms { of < most_terms }
     requires number_lt_most_terms { number < most_terms }
     ensures firsts_after { firsts.new ≡ set firsts.old of (suc number) }
     ensures nexts_after { nexts.new ≡ set nexts.old number (get_or firsts.old of 0) }
 {
-    let at = number as usize;
-    nexts[at] = firsts[of];
+    nexts[number as usize] = firsts[of];
     firsts[of] = number + 1;
 }
 
-// Links what a change appends, where that is a seal.
-pub fn link<'a>(
-    newest: &'a mut [u16; 1024],
-    older: &'a mut [u16; 1024],
-    heads: &'a mut [u16; 1024],
-    chain: &'a mut [u16; 1024],
-    codes: &'a mut [u32; 1024],
-    change: Change,
-    terms: u16,
-)
-    requires { Linkable change terms }
-    ensures { record { newest = newest.new; older = older.new; heads = heads.new; chain = chain.new; codes = codes.new }
-        ≡ links_stored change (record { newest = newest.old; older = older.old; heads = heads.old; chain = chain.old; codes = codes.old }) terms }
+// Links seal number `number`, of term p under key k.
+pub fn link(links: &mut Links, number: u16, k: KeyNo, p: TermNo)
+    requires number_lt_most_terms { number < most_terms }
+    requires key_lt_most_terms { k.0 < most_terms }
+    ensures { links.new ≡ linked links.old number k.0 p.0 }
 {
-    let Change::NewSeal(k, p, _) = change else {
-        return;
-    };
-    let code = code(k.0, p.0);
-    let at = terms as usize;
-    first(newest, older, k.0 as usize, terms);
-    first(heads, chain, bucket_of(code), terms);
-    codes[at] = code;
+    let code = code(k, p);
+    first(&mut links.newest, &mut links.older, k.0 as usize, number);
+    first(&mut links.heads, &mut links.chain, bucket_of(code), number);
+    links.codes[number as usize] = code;
 }

@@ -2,52 +2,70 @@
 ghost use Rattle.std.specs.Prelude.{◌≡◌, ◌<◌};
 ghost use Rattle.rules.specs.State.{most_terms};
 ghost use Rattle.token.specs.Shows.{seal_code};
-ghost use Rattle.running.specs.Views.{names_of, inside, first_at, other_at, handle_in, lookup_in, aim_in, seen_in};
+ghost use Rattle.running.specs.Views.{names_of, inside, first_at, other_at, handle_in, lookup_in, aim_in, Findable, SeesAlike};
 
-use crate::Names;
-use deciding::{Equal, Handle, Lookup, View};
+use crate::find::find;
+use crate::{Looks, Names};
+use deciding::{Handle, Lookup, View};
 use handles::{free, is_live};
 use shapes::entries::{key_of, payload_no};
-use shapes::{Command, Entry, HandleNo, Slot, TermNo};
+use shapes::{Command, Entry, HandleNo, KeyNo, Slot, TermNo};
+use token::Token;
 
-fn named(
-    a: HandleNo,
-    b: HandleNo,
-    t: TermNo,
-    u: TermNo,
-    handled: bool,
-    opens: bool,
-    own: bool,
-) -> Names
-    ensures { result ≡ record { a = a; b = b; t = t; u = u; handled = handled; opens = opens; own = own } }
-{
-    Names {
-        a,
-        b,
-        t,
-        u,
-        handled,
-        opens,
-        own,
-    }
-}
+// A command that names nothing.
+const NAMELESS: Names = Names {
+    a: HandleNo(0),
+    b: HandleNo(0),
+    t: TermNo(0),
+    u: TermNo(0),
+    looks: Looks::AtTerm,
+};
 
+#[tactic(auto, unfolding(crate::specs::Views::names_of))]
 pub fn names_of(command: Command) -> Names
     ensures { result ≡ names_of command }
 {
-    let h = HandleNo(0);
-    let n = TermNo(0);
     match command {
-        Command::Generate(_) => named(h, h, n, n, false, false, false),
-        Command::Wrap(a, b) => named(a, b, n, n, true, false, false),
-        Command::Unwrap(a, t, _) => named(a, h, t, n, false, true, false),
-        Command::Encrypt(a, t) => named(a, h, t, n, false, false, false),
-        Command::Decrypt(a, t) => named(a, h, t, n, false, true, false),
-        Command::Corrupt(a) => named(a, h, n, n, true, false, false),
-        Command::Destroy(a) => named(a, h, n, n, false, false, false),
-        Command::OwnKey => named(h, h, n, n, false, false, true),
-        Command::OwnData => named(h, h, n, n, false, false, true),
-        Command::Seal(t, u) => named(h, h, t, u, false, false, true),
+        Command::Generate(_) => NAMELESS,
+        Command::Wrap(a, b) => Names {
+            a,
+            b,
+            looks: Looks::AtHandles,
+            ..NAMELESS
+        },
+        Command::Unwrap(a, t, _) => Names {
+            a,
+            t,
+            looks: Looks::AtPayload,
+            ..NAMELESS
+        },
+        Command::Encrypt(a, t) => Names { a, t, ..NAMELESS },
+        Command::Decrypt(a, t) => Names {
+            a,
+            t,
+            looks: Looks::AtPayload,
+            ..NAMELESS
+        },
+        Command::Corrupt(a) => Names {
+            a,
+            looks: Looks::AtHandles,
+            ..NAMELESS
+        },
+        Command::Destroy(a) => Names { a, ..NAMELESS },
+        Command::OwnKey => Names {
+            looks: Looks::ByCaller,
+            ..NAMELESS
+        },
+        Command::OwnData => Names {
+            looks: Looks::ByCaller,
+            ..NAMELESS
+        },
+        Command::Seal(t, u) => Names {
+            t,
+            u,
+            looks: Looks::ByCaller,
+            ..NAMELESS
+        },
     }
 }
 
@@ -60,28 +78,73 @@ pub fn place(t: TermNo) -> usize
 }
 
 // The place of the term that a command looks at first.
+#[tactic(auto, unfolding(crate::specs::Views::first_at))]
 pub fn first_at(names: Names, a: Slot) -> usize
     ensures value { result ≡ first_at names a }
     ensures upper_bound { result < most_terms }
 {
-    if names.handled {
-        return place(a.term);
+    match names.looks {
+        Looks::AtHandles => place(a.term),
+        Looks::AtPayload | Looks::ByCaller | Looks::AtTerm => place(names.t),
     }
-    place(names.t)
 }
 
-// The place of the other term that it looks at.
+pub fn code(k: KeyNo, p: TermNo) -> u32
+    ensures { result ≡ seal_code k.0 p.0 }
+{
+    (k.0 as u32) * 1025 + (p.0 as u32) + 1
+}
+
+// The place of the other term that a command looks at.
+#[tactic(auto, unfolding(crate::specs::Views::other_at))]
 pub fn other_at(names: Names, b: Slot, first: Entry) -> usize
     ensures value { result ≡ other_at names b first }
     ensures upper_bound { result < most_terms }
 {
-    if names.handled {
-        return place(b.term);
+    match names.looks {
+        Looks::AtHandles => place(b.term),
+        Looks::AtPayload => place(payload_no(first)),
+        Looks::ByCaller | Looks::AtTerm => place(names.u),
     }
-    if names.opens {
-        return place(payload_no(first));
+}
+
+// The code of the seal that the command would make; of any seal where it makes none.
+#[tactic(auto, unfolding(crate::specs::Views::aim_in))]
+pub fn aim_of(names: Names, a: Slot, b: Slot, first: Entry) -> u32
+    ensures { result ≡ aim_in names a b first }
+{
+    match names.looks {
+        Looks::AtHandles => code(a.key, b.term),
+        Looks::ByCaller => code(key_of(first), names.u),
+        Looks::AtPayload | Looks::AtTerm => code(a.key, names.t),
     }
-    place(names.u)
+}
+
+// What a command sees of the token. Two entries are read and no more: each stands wherever a command may look for it.
+pub fn look(token: &Token, command: Command) -> View
+    requires { Findable token.now.links.heads token.now.links.chain token.now.links.codes }
+    ensures { SeesAlike token.now command result }
+{
+    let names = names_of(command);
+    let a = token.hands.slots[names.a.0 as usize];
+    let b = token.hands.slots[names.b.0 as usize];
+    let first = token.table.entries[first_at(names, a)];
+    let other = token.table.entries[other_at(names, b, first)];
+    let equal = find(&token.links, aim_of(names, a, b, first));
+    let live = token.hands.live;
+    let terms = token.table.terms;
+    View {
+        a: handle_in(is_live(live, names.a), a),
+        b: handle_in(is_live(live, names.b), b),
+        t: lookup_in(names.t.0 < terms, first),
+        u: lookup_in(names.u.0 < terms, other),
+        payload: other,
+        outer: first,
+        inner: other,
+        equal,
+        free: free(live),
+        terms,
+    }
 }
 
 pub fn handle_in(live: bool, slot: Slot) -> Handle
@@ -101,51 +164,5 @@ pub fn lookup_in(there: bool, entry: Entry) -> Lookup
         Lookup::There(entry)
     } else {
         Lookup::Nothing
-    }
-}
-
-pub fn code(k: u16, p: u16) -> u32
-    ensures { result ≡ seal_code k p }
-{
-    (k as u32) * 1025 + (p as u32) + 1
-}
-
-// The code of the seal that the command would make; of any seal where it makes none.
-pub fn aim_of(names: Names, a: Slot, b: Slot, first: Entry) -> u32
-    ensures { result ≡ aim_in names a b first }
-{
-    if names.own {
-        return code(key_of(first).0, names.u.0);
-    }
-    if names.handled {
-        return code(a.key.0, b.term.0);
-    }
-    code(a.key.0, names.t.0)
-}
-
-// What a command sees, of what it read.
-pub fn seen(
-    names: Names,
-    live: [u64; 4],
-    a: Slot,
-    b: Slot,
-    first: Entry,
-    other: Entry,
-    equal: Equal,
-    terms: u16,
-) -> View
-    ensures { result ≡ seen_in names live a b first other equal terms }
-{
-    View {
-        a: handle_in(is_live(live, names.a), a),
-        b: handle_in(is_live(live, names.b), b),
-        t: lookup_in(names.t.0 < terms, first),
-        u: lookup_in(names.u.0 < terms, other),
-        payload: other,
-        outer: first,
-        inner: other,
-        equal,
-        free: free(live),
-        terms,
     }
 }

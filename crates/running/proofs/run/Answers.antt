@@ -7,9 +7,9 @@ use Rattle.running.proofs.run.Goals as goal
 pub returns-in_default : goal.returns-in_default
 returns-in_default c = not_run _ c.check-checked.ensures c.in_default.is c.fresh-start.ensures
 
-pub advance-token-requires : goal.advance-token-requires
-advance-token-requires c = run_asks _ c.check-checked.ensures c.in-Good.is c.fresh-start.ensures (search rules)
+pub advance-requires : goal.advance-requires
+advance-requires c = run_asks _ c.check-checked.ensures c.in-Good.is c.fresh-start.ensures (search rules)
 
 pub returns : goal.returns
 returns c = run_leaves _ c.check-checked.ensures c.in-Good.is c.fresh-start.ensures
-    (bytes_of _ (λ i. (c.shared_slice_known-1.given i).fits)) c.advance-token.ensures
+    (bytes_of _ (λ i. (c.shared_slice_known-1.given i).fits)) c.advance.ensures

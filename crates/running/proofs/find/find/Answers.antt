@@ -4,15 +4,15 @@ use Rattle.running.proofs.ChainsFound.{walk_begins, walk_falls, walk_found, walk
 use Rattle.running.proofs.find.find.Goals as goal
 
 pub loop-link-init : goal.loop-link-init
-loop-link-init c = rw c.bucket_of-bucket.ensures.value (walk_begins _ _ _ _ c.requires.findable c.requires.code_nonzero)
+loop-link-init c = rw c.bucket_of.ensures.value (walk_begins _ _ _ _ c.requires.findable c.requires.code_nonzero)
 
-pub returns-then-codes-i : goal.returns-then-codes-i
-returns-then-codes-i c = walk_found _ _ _ _ _
+pub returns-then-links-i : goal.returns-then-links-i
+returns-then-links-i c = walk_found _ _ _ _ _
     c.requires.findable
     c.requires.code_nonzero
     c.loop-link.invariant
     c.loop-link-test.true
-    c.if-codes-i.true
+    c.if-links-i.true
 
 pub loop-link-smaller : goal.loop-link-smaller
 loop-link-smaller c = walk_falls _ _ _ _ _
@@ -27,7 +27,7 @@ loop-link-preserved c = walk_goes_on _ _ _ _ _
     c.requires.code_nonzero
     c.loop-link.invariant
     c.loop-link-test.true
-    c.if-codes-i.false
+    c.if-links-i.false
 
 pub returns : goal.returns
 returns c = walk_ends _ _ _ c.loop-link.invariant c.loop-link-test.false

@@ -4,7 +4,7 @@ use Rattle.running.proofs.ChainsFound.{Walking}
 use Rattle.running.proofs.find.find.Given as goal
 
 abbrev pub invariant-loop-link : goal.invariant-loop-link
-invariant-loop-link l = Walking l.codes l.code l.link
+invariant-loop-link l = Walking l.links.codes l.code l.link
 
 abbrev pub decreases-loop-link : goal.decreases-loop-link
 decreases-loop-link l = l.link

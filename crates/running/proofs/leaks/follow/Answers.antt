@@ -23,11 +23,11 @@ loop-link-smaller-then-link-eq0 c = pop_less c.loop-link.invariant c.if-link-eq0
 pub loop-link-preserved-then-link-eq0 : goal.loop-link-preserved-then-link-eq0
 loop-link-preserved-then-link-eq0 c = follow_pops c.loop-link.invariant c.if-link-eq0.true c.if-depth-eq0.false
 
-pub bounds-older-i : goal.bounds-older-i
-bounds-older-i c = omega (arith, link_inside c.loop-link.invariant)
+pub bounds-links-i : goal.bounds-links-i
+bounds-links-i c = omega (arith, link_inside c.loop-link.invariant)
 
-pub bounds-next-i : goal.bounds-next-i
-bounds-next-i c = omega (arith, link_inside c.loop-link.invariant)
+pub bounds-table-i : goal.bounds-table-i
+bounds-table-i c = omega (arith, link_inside c.loop-link.invariant)
 
 pub loop-link-smaller-then-not-leaks : goal.loop-link-smaller-then-not-leaks
 loop-link-smaller-then-not-leaks c = pass_less c.loop-link.invariant c.if-link-eq0.false c.payload_no-q.ensures

@@ -5,7 +5,7 @@ use Rattle.running.proofs.LeakFollow.{Following, left}
 use Rattle.running.proofs.leaks.follow.Given as goal
 
 abbrev pub invariant-loop-link : goal.invariant-loop-link
-invariant-loop-link l = Following l.newest l.older l.initial.next l.at l.next l.stack l.depth l.link
+invariant-loop-link l = Following l.links.newest l.links.older l.initial.table l.at l.table l.stack l.depth l.link
 
 abbrev pub decreases-loop-link : goal.decreases-loop-link
-decreases-loop-link l = left l.next l.depth l.link
+decreases-loop-link l = left l.table l.depth l.link

@@ -5,15 +5,15 @@ use Rattle.shapes.specs.declared.Command.{Command}
 use Rattle.deciding.specs.declared.Done.{Done}
 use Rattle.deciding.specs.declared.View.{View}
 use Rattle.deciding.specs.declared.Refusal.{Refusal}
-use Rattle.deciding.specs.declared.Refusal.TheVariants.{HoldsTopBit, NotLive, NoTerm, NotGranted, FlagMissing, NotHeld, WrongKind, KeyEncrypted}
+use Rattle.deciding.specs.declared.Refusal.TheVariants.{NotACall, HoldsTopBit, NotLive, NoTerm, NotGranted, FlagMissing, NotHeld, WrongKind, KeyEncrypted}
 use Rattle.deciding.specs.declared.Refusal.TheVariants.{NoHandleLeft, NoTermLeft}
 use Rattle.deciding.specs.Decisions.{Decision, number, comes_to, decided}
 
--- the refusals by number, of which none is 0 or 1
+-- the refusals by number, of which none is 0
 abbrev refusals : List Refusal
 refusals =
     NoTermLeft
-    ∷ NoTermLeft
+    ∷ NotACall
     ∷ HoldsTopBit
     ∷ NotLive
     ∷ NoTerm
@@ -27,6 +27,7 @@ refusals =
     ∷ []
 
 named_back : (r : Refusal) → get_or refusals (number r) NoTermLeft ≡ r
+named_back NotACall = refl
 named_back HoldsTopBit = refl
 named_back NotLive = refl
 named_back NoTerm = refl
@@ -43,17 +44,18 @@ pub number_unique : (r s : Refusal) → number r ≡ number s → r ≡ s
 number_unique r s e = sym (named_back r) ∙ ap (λ n. get_or refusals n NoTermLeft) e ∙ named_back s
 
 -- and none has the number of a done command
-pub refused_above_1 : (r : Refusal) → 1 < number r
-refused_above_1 HoldsTopBit = omega arith
-refused_above_1 NotLive = omega arith
-refused_above_1 NoTerm = omega arith
-refused_above_1 NotGranted = omega arith
-refused_above_1 FlagMissing = omega arith
-refused_above_1 NotHeld = omega arith
-refused_above_1 WrongKind = omega arith
-refused_above_1 KeyEncrypted = omega arith
-refused_above_1 NoHandleLeft = omega arith
-refused_above_1 NoTermLeft = omega arith
+pub refused_above_0 : (r : Refusal) → 0 < number r
+refused_above_0 NotACall = omega arith
+refused_above_0 HoldsTopBit = omega arith
+refused_above_0 NotLive = omega arith
+refused_above_0 NoTerm = omega arith
+refused_above_0 NotGranted = omega arith
+refused_above_0 FlagMissing = omega arith
+refused_above_0 NotHeld = omega arith
+refused_above_0 WrongKind = omega arith
+refused_above_0 KeyEncrypted = omega arith
+refused_above_0 NoHandleLeft = omega arith
+refused_above_0 NoTermLeft = omega arith
 
 -- a done command is what its decision says
 abbrev given : Decision → Result Done Refusal
@@ -62,8 +64,8 @@ given d = Ok (record { value = d.value; change = d.change })
 -- two answers that come to one decision are one
 pub comes_to_unique : (r s : Result Done Refusal) → comes_to r ≡ comes_to s → r ≡ s
 comes_to_unique (Ok d) (Ok e) same = ap given same
-comes_to_unique (Ok d) (Err y) same = absurd (omega (arith, refused_above_1 y, ap (λ (d : Decision). d.answer) same))
-comes_to_unique (Err x) (Ok e) same = absurd (omega (arith, refused_above_1 x, ap (λ (d : Decision). d.answer) same))
+comes_to_unique (Ok d) (Err y) same = absurd (omega (arith, refused_above_0 y, ap (λ (d : Decision). d.answer) same))
+comes_to_unique (Err x) (Ok e) same = absurd (omega (arith, refused_above_0 x, ap (λ (d : Decision). d.answer) same))
 comes_to_unique (Err x) (Err y) same = ap (λ (z : Refusal). Err z) (number_unique x y (ap (λ (d : Decision). d.answer) same))
 
 -- two results that meet the contract of `decide` are equal

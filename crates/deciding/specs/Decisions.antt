@@ -17,7 +17,7 @@ use Rattle.deciding.specs.declared.Change.{Change}
 use Rattle.deciding.specs.declared.Change.TheVariants.{Nothing, Bind, Release, NewKey, OwnKey as MakeOwnKey, OwnData as MakeOwnData, NewSeal, Know}
 use Rattle.deciding.specs.declared.Done.{Done}
 use Rattle.deciding.specs.declared.Refusal.{Refusal}
-use Rattle.deciding.specs.declared.Refusal.TheVariants.{HoldsTopBit, NotLive, NoTerm, NotGranted, FlagMissing, NotHeld, WrongKind, KeyEncrypted}
+use Rattle.deciding.specs.declared.Refusal.TheVariants.{NotACall, HoldsTopBit, NotLive, NoTerm, NotGranted, FlagMissing, NotHeld, WrongKind, KeyEncrypted}
 use Rattle.deciding.specs.declared.Refusal.TheVariants.{NoHandleLeft, NoTermLeft}
 use Rattle.shapes.specs.declared.Command.{Command}
 use Rattle.shapes.specs.declared.Command.TheVariants.{Generate, Wrap, Unwrap, Encrypt, Decrypt, Corrupt, Destroy, OwnKey, OwnData, Seal as SealTerm}
@@ -38,6 +38,7 @@ done_with value change = record { answer = 0; value = value; change = change }
 
 -- a refusal's number in the table of answers
 abbrev pub number : Refusal → ℕ
+number NotACall = 1
 number HoldsTopBit = 2
 number NotLive = 3
 number NoTerm = 4

@@ -44,9 +44,10 @@ pub struct Done {
     pub change: Change,
 }
 
-// Why a command is refused, each with its number in document 01's table of answers.
+// Why a command is refused, each with its number in document 01's table of answers; the first is asked of a direct call alone.
 #[derive(Clone, Copy, PartialEq, Eq)]
 pub enum Refusal {
+    NotACall = 1,
     HoldsTopBit = 2,
     NotLive = 3,
     NoTerm = 4,

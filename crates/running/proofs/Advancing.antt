@@ -1,4 +1,5 @@
 -- The commands of a sheet, run on a token where it stands: what holds after each, and how the next goes on. Rests on StepShown.
+use Rattle.running.specs.Views.{Findable}
 use Prim.Native.Nat.{ℕ, zero, suc, ◌+◌, ◌*◌, ◌≤◌, ◌<◌}
 use mathlib.Core.Path.{◌≡◌, refl, sym, ◌∙◌, ap, subst}
 use mathlib.Core.List.{List, [], ◌∷◌, ◌++◌}
@@ -18,18 +19,18 @@ use Rattle.sheets.specs.Calls.{over}
 use Rattle.sheets.specs.Reading.{read_commands}
 use Rattle.sheets.proofs.Faultless.{none_faultless}
 use Rattle.sheets.proofs.Walks.{command_at, command_holdable}
+use Rattle.std.specs.Prelude.{Option, Some, None, Result, IsSome}
 use Rattle.shapes.specs.declared.Command.{Command as Stored}
-use Rattle.deciding.specs.declared.Change.{Change}
-use Rattle.deciding.specs.declared.View.{View}
-use Rattle.deciding.specs.declared.Decision.{Decision}
+use Rattle.shapes.specs.declared.Command.TheVariants.{OwnKey}
+use Rattle.shapes.specs.declared.SheetEntry.{SheetEntry}
+use Rattle.deciding.specs.declared.Refusal.{Refusal}
+use Rattle.reader.specs.Reader.{entry_at}
 use Rattle.shapes.specs.Commands.{stored_command}
-use Rattle.deciding.specs.Decisions.{decided}
 use Rattle.token.specs.declared.Token.{Token}
-use Rattle.running.specs.Views.{view_of, Findable}
-use Rattle.running.specs.Applied.{Applicable, Applied}
 use Rattle.running.specs.Direct.{ComesFrom, Reached}
 use Rattle.reader.proofs.GoodEntries.{good_entry}
-use Rattle.running.specs.Advance.{command_of, command_in, record_put, AnsweredBy, RunAsks, Ran}
+use Rattle.running.specs.Said.{answer_of, value_of}
+use Rattle.running.specs.Advance.{record_put, decision_on, CanStep, Stepped, RunAsks, Ran}
 use Rattle.running.proofs.ShownCounts.{few_keys}
 use Rattle.running.proofs.StepShown.{findable, step_applicable, step_stepped}
 use Rattle.running.proofs.RecordsWritten.{written_next}
@@ -43,6 +44,11 @@ unfolding read_commands
 read_length s zero = refl
 read_length s (suc n) = length-append (read_commands s n) _ ∙ ap (λ (k : ℕ). k + 1) (read_length s n) ∙ add-one n
 
+-- the command of an entry, where there is one
+abbrev command_of : Option SheetEntry → Stored
+command_of (Some entry) = entry.command
+command_of None = OwnKey
+
 -- after i commands
 pub record AdvancedTo (policy : ℕ) (s : List ℕ) (n : ℕ) (before : List ℕ) (start : Token) (i : ℕ) (records : List ℕ) (t : Token) : Type 0 where
   pub asks : RunAsks start policy s n before
@@ -50,14 +56,6 @@ pub record AdvancedTo (policy : ℕ) (s : List ℕ) (n : ℕ) (before : List ℕ
   pub within : i ≤ n
   pub same_length : length records ≡ length before
   pub so_far : Ran start policy s i before records t
-
--- what was decided is told
-pub decided_told : (policy : ℕ) (command : Stored) {view seen : View} → view ≡ seen → {d : Decision} → d ≡ decided policy command view
-    → {i : ℕ} {before after : List ℕ} → after ≡ record_put before i d.answer d.value
-    → AnsweredBy (decided policy command seen) i before after d.change
-decided_told policy command saw {d} so {i} {before} {after} wrote =
-    subst (λ (x : View). AnsweredBy (decided policy command x) i before after d.change) saw
-    (subst (λ (x : Decision). AnsweredBy x i before after d.change) so (record { of_change = refl; of_record = wrote }))
 
 -- before the first
 pub advance_begins : {policy : ℕ} {s : List ℕ} {n : ℕ} {before : List ℕ} {start : Token} → RunAsks start policy s n before → Bytes s
@@ -128,14 +126,15 @@ module _ {policy : ℕ} {s : List ℕ} {n : ℕ} {before : List ℕ} {start : To
     pub record_room : 3 * i + 3 ≤ length records
     record_room = omega (arith, room, adv.same_length)
 
-    -- the next command, answered
-    module _ {command : Stored} (is : command ≡ command_in s i) {d : Decision}
-        (so : d ≡ decided policy command (view_of t.table t.hands t.links.codes command)) {after : List ℕ} {change : Change}
-        (told : AnsweredBy d i records after change) where
-      is_command : command ≡ stored_command (command_at s i)
-      unfolding command_in command_of
-      is_command =
-          is ∙ ap command_of (good_entry s i adv.asks.good (omega (arith, more, adv.asks.counted)))
+    -- the next entry is there
+    pub entry_there : IsSome (entry_at s i)
+    entry_there = rw (good_entry s i adv.asks.good (omega (arith, more, adv.asks.counted))) refl
+
+    -- the next command, stepped
+    module _ {entry : SheetEntry} (is : Some entry ≡ entry_at s i) where
+      -- the entry states the command that is read there
+      is_command : entry.command ≡ stored_command (command_at s i)
+      is_command = ap command_of (is ∙ good_entry s i adv.asks.good (omega (arith, more, adv.asks.counted)))
 
       holdable : Holdable (command_at s i)
       holdable =
@@ -143,43 +142,42 @@ module _ {policy : ℕ} {s : List ℕ} {n : ℕ} {before : List ℕ} {start : To
           command_holdable s adv.bytes good.header.table_inside i
           (good.entries i (omega (arith, more, adv.asks.counted)))
 
-      pub next_applicable : Applicable t change
-      next_applicable =
-          subst (Applicable t) (sym told.of_change)
-          (step_applicable refl so adv.asks.low still_reached (command_at s i) holdable is_command)
-
-      ran_next : {r : Token} → Applied t d.change r
-          → Ran start policy s (suc i) before
-          (record_put records i d.answer d.value) r
-      unfolding read_commands
-      ran_next applied p state comes =
-          let ran = adv.so_far p state comes in
-          let st = step_stepped refl so adv.asks.low applied p ran.end (command_at s i) (goes_on p state comes) holdable is_command in
-          let a : Answer = record { answer = d.answer; value = d.value } in
-          let counted : length ran.said ≡ i = one_answer_each ran.run ∙ read_length s i in
+      pub next_steps : CanStep (decision_on policy entry.command t) t
+      next_steps =
           record {
-            said = ran.said ++ a ∷ [];
-            end = st.next;
-            run = run_append ran.run (then st.step ends);
-            shows_end = st.shows_next;
-            written = rw ran.written (written_next ran.said before i d.answer d.value counted room);
+            findable = findable still_reached.comes.shown;
+            applicable = step_applicable refl refl adv.asks.low still_reached (command_at s i) holdable is_command;
           }
 
-      -- and its change made
-      pub advance_on : {r : Token} → Applied t change r → AdvancedTo policy s n before start (i + 1) after r
-      advance_on {r} applied =
-          let made : Applied t d.change r =
-          subst (λ (x : Change). Applied t x r) told.of_change applied in
-          record {
-            asks = adv.asks;
-            bytes = adv.bytes;
-            within = omega (arith, more);
-            same_length = rw told.of_record (simp length-set adv.same_length);
-            so_far =
-                rw told.of_record
-                (subst
-                (λ (k : ℕ).
-                Ran start policy s k before
-                (record_put records i d.answer d.value) r)
-                (sym (add-one i)) (ran_next made));
-          }
+      module _ {r : Token} {said : Result ℕ Refusal} (by : Stepped (decision_on policy entry.command t) t r said) where
+        ran_next : Ran start policy s (suc i) before (record_put records i (answer_of said) (value_of said)) r
+        unfolding read_commands
+        ran_next p state comes =
+            let ran = adv.so_far p state comes in
+            let st = step_stepped refl refl adv.asks.low by.changes by.answers by.values p ran.end (command_at s i)
+            (goes_on p state comes) holdable is_command in
+            let a : Answer = record { answer = answer_of said; value = value_of said } in
+            let counted : length ran.said ≡ i = one_answer_each ran.run ∙ read_length s i in
+            record {
+              said = ran.said ++ a ∷ [];
+              end = st.next;
+              run = run_append ran.run (then st.step ends);
+              shows_end = st.shows_next;
+              written = rw ran.written (written_next ran.said before i (answer_of said) (value_of said) counted room);
+            }
+
+        -- and its record put
+        pub advance_on : {after : List ℕ} → after ≡ record_put records i (answer_of said) (value_of said)
+            → AdvancedTo policy s n before start (i + 1) after r
+        advance_on wrote =
+            record {
+              asks = adv.asks;
+              bytes = adv.bytes;
+              within = omega (arith, more);
+              same_length = rw wrote (simp length-set adv.same_length);
+              so_far =
+                  rw wrote
+                  (subst
+                  (λ (k : ℕ). Ran start policy s k before (record_put records i (answer_of said) (value_of said)) r)
+                  (sym (add-one i)) ran_next);
+            }

@@ -1,4 +1,5 @@
 -- What is decided on what was read of the token's parts is what is decided on the view of them. Rests on specs/Views.antt.
+use Rattle.std.specs.Prelude.{Option}
 use Prim.Native.Nat.{ℕ, ◌<◌}
 use mathlib.Core.Path.{◌≡◌, refl}
 use mathlib.Core.List.{List}
@@ -6,12 +7,12 @@ use native.Mathlib.Omega.{arith}
 use lib.ListN.{get_or}
 use Rattle.shapes.specs.declared.Entry.{Entry}
 use Rattle.shapes.specs.declared.Slot.{Slot}
+use Rattle.shapes.specs.declared.TermNo.{TermNo}
 use Rattle.token.specs.declared.Table.{Table}
 use Rattle.token.specs.declared.Hands.{Hands}
 use Rattle.running.specs.declared.Looks.{Looks}
 use Rattle.running.specs.declared.Looks.TheVariants.{AtHandles, AtPayload, AtTerm, ByCaller}
 use Rattle.running.specs.declared.Names.{Names}
-use Rattle.deciding.specs.declared.Equal.{Equal}
 use Rattle.shapes.specs.declared.Command.{Command}
 use Rattle.shapes.specs.declared.Command.TheVariants.{Generate, Wrap, Unwrap, Encrypt, Decrypt, Corrupt, Destroy}
 use Rattle.shapes.specs.declared.Command.TheVariants.{OwnKey, OwnData, Seal}
@@ -63,7 +64,7 @@ module _ (policy : ℕ) (table : Table) (hands : Hands) (codes : List ℕ) where
       → code
       ≡ aim_in n (get_or hands.slots n.a.0 blank_slot) (get_or hands.slots n.b.0 blank_slot)
       (get_or table.entries at blank_entry)
-      → {equal : Equal}
+      → {equal : Option TermNo}
       → equal ≡ equal_in codes code
       → decided policy c
       (seen_in n hands.live (get_or hands.slots n.a.0 blank_slot) (get_or hands.slots n.b.0 blank_slot)

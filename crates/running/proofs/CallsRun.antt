@@ -13,6 +13,7 @@ use Rattle.sheets.specs.Reading.{read_command}
 use Rattle.token.specs.declared.Token.{Token}
 use Rattle.running.specs.declared.Called.{Called}
 use Rattle.token.specs.Shows.{Shows}
+use Rattle.running.specs.Said.{answer_of, value_of}
 use Rattle.running.specs.Direct.{not_a_call, CallAnswer, Answered}
 use Rattle.running.proofs.Going.{reachable_next}
 
@@ -22,12 +23,12 @@ pub record Direct : Type 0 where
   pub body : List ℕ
 
 abbrev pub said_of : Called → Answer
-said_of r = record { answer = r.answer; value = r.value }
+said_of r = record { answer = answer_of r.said; value = value_of r.said }
 
 -- calls in a row under one policy, each as the contract of `call` says: the answers, and the token at the end
 pub data Calls (policy : ℕ) : Token → List Direct → List Answer → Token → Type 0 where
   no_more : {t : Token} → Calls policy t [] [] t
-  then_call : {t end : Token} {r : Called} {d : Direct} {ds : List Direct} {said : List Answer}
+  then_call : {t end : Token} (r : Called) {d : Direct} {ds : List Direct} {said : List Answer}
       → Answered t policy d.number d.body r
       → Calls policy r.token ds said end
       → Calls policy t (d ∷ ds) (said_of r ∷ said) end
@@ -60,7 +61,7 @@ pub record CallsRun (p : Policy) (policy : ℕ) (s : State) (ds : List Direct) (
   pub shows : Shows end state
 
 -- the first call of a row, and the rest
-one_call : {p : Policy} {policy : ℕ} {s : State} {t end : Token} {r : Called} (d : Direct) {ds : List Direct} {said : List Answer}
+one_call : {p : Policy} {policy : ℕ} {s : State} {t end : Token} (r : Called) (d : Direct) {ds : List Direct} {said : List Answer}
     → (none : Bool)
     → is_none policy d ≡ none
     → CallAnswer none t p s d.number d.body r
@@ -69,7 +70,7 @@ one_call : {p : Policy} {policy : ℕ} {s : State} {t end : Token} {r : Called} 
     → ((s' : State) → Reachable p s' → Shows r.token s' → CallsRun p policy s' ds said end)
     → CallsRun p policy s (d ∷ ds) (said_of r ∷ said) end
 unfolding commands_of with_ones one_more
-one_call {p} {policy} {s} d true e refused reach shown rest =
+one_call {p} {policy} {s} r d true e refused reach shown rest =
     let later = rest s reach (rw refused.same_token shown) in
     record {
       answers = later.answers;
@@ -78,7 +79,7 @@ one_call {p} {policy} {s} d true e refused reach shown rest =
       all_said = rw (e, refused.answers_1, refused.no_value, later.all_said);
       shows = later.shows;
     }
-one_call {p} {policy} {s} {r = r} d false e stepped reach shown rest =
+one_call {p} {policy} {s} r d false e stepped reach shown rest =
     let later = rest stepped.next (reachable_next reach stepped.step) stepped.shows_next in
     record {
       answers = said_of r ∷ later.answers;
@@ -98,8 +99,8 @@ pub calls_run : (p : Policy) {policy : ℕ} {s : State} {t end : Token} {ds : Li
 unfolding commands_of with_ones
 calls_run p same reach shown no_more =
     record { answers = []; state = _; run = ends; all_said = refl; shows = shown }
-calls_run p {policy} {s} same reach shown (then_call {d = d} answered calls) =
-    one_call d (is_none policy d) refl
+calls_run p {policy} {s} same reach shown (then_call r {d = d} answered calls) =
+    one_call r d (is_none policy d) refl
     (answered p s (record { reachable = reach; shown = shown; this_policy = λ low. same }))
     reach shown
     (λ s' reach' shown'. calls_run p same reach' shown' calls)

@@ -1,5 +1,6 @@
 -- The walk through a bucket's chain for a code: what holds where it begins, at each link, where it ends, and that each link leads
 -- to a smaller number. Rests on Views (Findable, equal_in) and on ChainsLast.
+use Rattle.std.specs.Prelude.{None, Some}
 use Prim.Native.Nat.{ℕ, zero, suc, ◌-◌, ◌≤◌, ◌<◌}
 use native.Mathlib.Omega.{arith}
 use mathlib.Core.Path.{◌≡◌, refl, sym, ap, ◌∙◌}
@@ -11,7 +12,6 @@ use lib.Dec.{eqb, ltb}
 use lib.ListN.{get_or}
 use Rattle.rules.specs.State.{most_terms}
 use Rattle.terms.proofs.Lists.{bool_cases}
-use Rattle.deciding.specs.declared.Equal.TheVariants.{At, New}
 use Rattle.token.specs.Chains.{in_chain, last, next_in}
 use Rattle.token.specs.Shows.{bucket, bucket_chain}
 use Rattle.running.specs.Views.{Findable, equal_in}
@@ -108,7 +108,7 @@ module _ (heads chain codes : List ℕ) (code link : ℕ) (f : Findable heads ch
   walk_falls = omega (arith, next_is, last_le (bucketed codes (bucket code)) (link - 1))
 
   -- the number at hand has the code: it is the one looked for
-  pub walk_found : get_or codes (link - 1) 0 ≡ code → At (record { 0 = link - 1 }) ≡ equal_in codes code
+  pub walk_found : get_or codes (link - 1) 0 ≡ code → Some (record { 0 = link - 1 }) ≡ equal_in codes code
   unfolding equal_in
   walk_found e =
       let last_here : last (has_code codes code) most_terms ≡ suc (link - 1) =
@@ -123,7 +123,7 @@ module _ (heads chain codes : List ℕ) (code link : ℕ) (f : Findable heads ch
       (w.below ∙ ap (last (has_code codes code)) is_suc ∙ last_miss (has_code codes code) (link - 1) (ne_eqb _ _ e)))
 
 -- the walk ends at no link: nothing has the code
-pub walk_ends : (codes : List ℕ) (code link : ℕ) → Walking codes code link → link ≡ 0 → New ≡ equal_in codes code
+pub walk_ends : (codes : List ℕ) (code link : ℕ) → Walking codes code link → link ≡ 0 → None ≡ equal_in codes code
 unfolding equal_in
 walk_ends codes code link w e =
     let none : last (has_code codes code) most_terms ≡ 0 =

@@ -19,7 +19,7 @@ use Rattle.sheets.specs.Sheets.{policy_number}
 use Rattle.sheets.specs.Reading.{read_policy}
 use Rattle.deciding.specs.declared.Change.{Change}
 use Rattle.deciding.specs.declared.Change.TheVariants.{Nothing}
-use Rattle.deciding.specs.declared.Decision.{Decision}
+use Rattle.deciding.specs.Decisions.{Decision}
 use Rattle.deciding.specs.Decisions.{decision}
 use Rattle.running.proofs.ChangeFor.{value_for, change_for}
 

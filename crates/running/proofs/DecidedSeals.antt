@@ -1,4 +1,6 @@
 -- The commands that make a seal, on what they see: WRAP, ENCRYPT, SEAL. Rests on DecidedBy and DecidedParts.
+use Rattle.shapes.specs.declared.TermNo.{TermNo}
+use Rattle.std.specs.Prelude.{Option}
 use Prim.Native.Nat.{ℕ}
 use mathlib.Core.Path.{◌≡◌, refl, sym}
 use mathlib.Core.Bool.{Bool, true, false, not, ◌&&◌, ◌||◌, cond, and-false, or-false, or_assoc}
@@ -17,7 +19,6 @@ use Rattle.rules.proofs.Sound.{Sound}
 use Rattle.rules.proofs.Done.{done}
 use Rattle.sheets.specs.Reading.{read_policy}
 use Rattle.shapes.specs.declared.Entry.{Entry}
-use Rattle.deciding.specs.declared.Equal.{Equal}
 use Rattle.token.specs.Shows.{entry_for}
 use Rattle.shapes.specs.Entries.{is_key_entry}
 use Rattle.deciding.specs.Decisions.{slot_in, entry_in, decided_wrap, decided_encrypt, decided_seal}
@@ -52,7 +53,7 @@ wrap_flags_asked s a b =
     )
 
 -- WRAP
-pub decides_wrap : (p : Policy) (s : State) (a b : ℕ) (outer inner : Entry) (equal : Equal) →
+pub decides_wrap : (p : Policy) (s : State) (a b : ℕ) (outer inner : Entry) (equal : Option TermNo) →
     (is_live (slot s.now a) ≡ true → outer ≡ entry_for s (some (key (key_of_slot (slot s.now a))))) →
     (is_live (slot s.now b) ≡ true → inner ≡ entry_for s (some (key (key_of_slot (slot s.now b))))) →
     (is_live (slot s.now b) ≡ true →
@@ -85,7 +86,7 @@ key_asked : (policy : ℕ) {p : Policy} (s : State) (n : ℕ) → read_policy po
 key_asked policy s n reads = rw (reads, lookup_entry s n, key_seen s n)
 
 -- ENCRYPT
-pub decides_encrypt : (policy : ℕ) {p : Policy} {s : State} (h t : ℕ) (equal : Equal) → read_policy policy ≡ p → Sound s →
+pub decides_encrypt : (policy : ℕ) {p : Policy} {s : State} (h t : ℕ) (equal : Option TermNo) → read_policy policy ≡ p → Sound s →
     (is_term s.now t ≡ true → equal ≡ equal_for s.now.table (seal (key_of_slot (slot s.now h)) (term_at s.now t))) →
     Decides p s (ENCRYPT h t)
     (decided_encrypt policy (handle_of s h) (lookup_of s t)
@@ -108,7 +109,7 @@ decides_encrypt policy {p} {s} h t equal reads sound is_equal =
     ))
 
 -- SEAL
-pub decides_seal : (p : Policy) {s : State} (k t : ℕ) (equal : Equal) → Sound s →
+pub decides_seal : (p : Policy) {s : State} (k t : ℕ) (equal : Option TermNo) → Sound s →
     (is_term s.now k ≡ true → is_term s.now t ≡ true →
     equal ≡ equal_for s.now.table (seal (key_number (term_at s.now k)) (term_at s.now t))) →
     Decides p s (SEAL k t)

@@ -23,8 +23,10 @@ use Rattle.token.specs.declared.Token.{Token}
 use Rattle.running.specs.declared.Called.{Called}
 use Rattle.token.specs.Shows.{Shows}
 use Rattle.token.specs.Known.{blank_token, marked_keys}
+use Rattle.running.specs.Said.{answer_of, value_of}
 use Rattle.running.specs.Direct.{not_a_call, ComesFrom, Reached, CallAnswer, Answered}
 use Rattle.token.proofs.Shown.{shows_unique, blank_shows}
+use Rattle.running.proofs.Said.{said_unique}
 use Rattle.running.proofs.CallsRun.{Direct, Calls, CallsRun, calls_run, commands_of}
 use Rattle.token.proofs.KnownShown.{known_shown}
 
@@ -33,8 +35,8 @@ fresh_reachable : (p : Policy) → Reachable p fresh
 fresh_reachable p = record { commands = []; said = []; run = ends }
 
 -- what is given back is determined: two results that meet the contract are equal
-called_equal : (r r' : Called) → r.answer ≡ r'.answer → r.value ≡ r'.value → r.token ≡ r'.token → r ≡ r'
-called_equal r r' a v t = λ i. record { token = t i; answer = a i; value = v i }
+called_equal : (r r' : Called) → answer_of r.said ≡ answer_of r'.said → value_of r.said ≡ value_of r'.said → r.token ≡ r'.token → r ≡ r'
+called_equal r r' a v t = let said = said_unique r.said r'.said a v in λ i. record { token = t i; said = said i }
 
 one_answer : (token : Token) (p : Policy) (s : State) (number : ℕ) (body : List ℕ) (r r' : Called) (none : Bool)
     → CallAnswer none token p s number body r
@@ -60,7 +62,7 @@ call_unique {token} {policy} number body r r' comes a b =
 -- Demand 1. "each command gets an answer from the fixed table": 0, or 1 to 11
 in_the_table : (token : Token) (p : Policy) (s : State) (number : ℕ) (body : List ℕ) (r : Called) (none : Bool)
     → CallAnswer none token p s number body r
-    → r.answer ≤ 11
+    → answer_of r.said ≤ 11
 in_the_table token p s number body r true a = omega (arith, a.answers_1)
 in_the_table token p s number body r false a =
     ⊎_elim (λ done. omega (arith, done)) (λ refused. refused.1) (answer_in_table a.step)
@@ -68,7 +70,7 @@ in_the_table token p s number body r false a =
 pub answer_from_the_table : {token : Token} {policy : ℕ} (number : ℕ) (body : List ℕ) (r : Called)
     → Reached token policy
     → Answered token policy number body r
-    → r.answer ≤ 11
+    → answer_of r.said ≤ 11
 answer_from_the_table {token} {policy} number body r comes a =
     in_the_table token comes.under comes.state number body r (not_a_call policy number body)
     (a comes.under comes.state comes.comes)
@@ -77,8 +79,8 @@ answer_from_the_table {token} {policy} number body r comes a =
 refusal : {token : Token} {policy : ℕ} {p : Policy} {s : State} (number : ℕ) (body : List ℕ) (r : Called) (none : Bool)
     → ComesFrom token policy p s
     → CallAnswer none token p s number body r
-    → ¬ (r.answer ≡ 0)
-    → (r.value ≡ 0) × (r.token ≡ token)
+    → ¬ (answer_of r.said ≡ 0)
+    → (value_of r.said ≡ 0) × (r.token ≡ token)
 refusal number body r true comes a not_done = (a.no_value, a.same_token)
 refusal number body r false comes a not_done =
     let left = refused_leaves a.step not_done in
@@ -87,8 +89,8 @@ refusal number body r false comes a not_done =
 pub refused_changes_nothing : {token : Token} {policy : ℕ} (number : ℕ) (body : List ℕ) (r : Called)
     → Reached token policy
     → Answered token policy number body r
-    → ¬ (r.answer ≡ 0)
-    → (r.value ≡ 0) × (r.token ≡ token)
+    → ¬ (answer_of r.said ≡ 0)
+    → (value_of r.said ≡ 0) × (r.token ≡ token)
 refused_changes_nothing {policy = policy} number body r comes a =
     refusal number body r (not_a_call policy number body) comes.comes (a comes.under comes.state comes.comes)
 

@@ -1,5 +1,6 @@
 -- From the ground up: what a command sees and what is decided on it, how a leak is followed, how each change shows the next state, how
 -- one command after another is a run, and the demands of the code's own calls.
+pub mod Said
 pub mod ChainsFound
 pub mod Codes
 pub mod ChangeFor
@@ -48,7 +49,6 @@ pub mod Stored
 pub mod StepShown
 pub mod RecordsWritten
 pub mod Advancing
-pub mod OneCommand
 pub mod CallShown
 pub mod Going
 pub mod RunShown

@@ -1,5 +1,8 @@
 -- A good sheet run from a fresh token: what the run asks, and what it leaves; and that two results of running one sheet are equal. Rests
 -- on Advancing, Going and Shown, and on the reader's and the sheets' laws.
+use Rattle.std.specs.Prelude.{Err, Ok, Result as Either}
+use Rattle.reader.specs.declared.Header.{Header}
+use Rattle.reader.specs.declared.Malformed.{Malformed}
 use Prim.Native.Nat.{ℕ}
 use mathlib.Core.Path.{◌≡◌, refl, sym, ◌∙◌, ap, subst}
 use mathlib.Core.List.{List}
@@ -15,8 +18,6 @@ use Rattle.sheets.specs.Reports.{records_bytes}
 use Rattle.sheets.specs.Calls.{over}
 use Rattle.sheets.specs.Reading.{read_policy, read_commands}
 use Rattle.sheets.proofs.Good.{policy_written, good_sheet, one_reading}
-use Rattle.reader.specs.declared.Checked.{Checked}
-use Rattle.reader.specs.declared.Checked.TheVariants.{Good, Malformed}
 use Rattle.reader.specs.Reader.{checked}
 use Rattle.reader.proofs.GoodEntries.{checked_good, checked_malformed, good_most}
 use Rattle.token.specs.declared.Token.{Token}
@@ -28,8 +29,8 @@ use Rattle.running.specs.Run.{RunOrNot, RanSheet}
 use Rattle.token.proofs.Shown.{shows_unique}
 use Rattle.running.proofs.Going.{comes_fresh, reached_fresh}
 
-module _ (s : List ℕ) {c : Checked} {policy n : ℕ} (found : c ≡ checked s) (good : c ≡ Good policy n) where
-  is_good : checked s ≡ Good policy n
+module _ (s : List ℕ) {c : Either Header Malformed} {policy n : ℕ} (found : c ≡ checked s) (good : c ≡ Ok (record { policy = policy; count = n })) where
+  is_good : checked s ≡ Ok (record { policy = policy; count = n })
   is_good = sym found ∙ good
 
   pub run_asks : {start : Token} → start ≡ blank_token → {records : List ℕ} → length records ≡ 12288 → RunAsks start policy s n records
@@ -48,7 +49,7 @@ module _ (s : List ℕ) {c : Checked} {policy n : ℕ} (found : c ≡ checked s)
 
   pub run_leaves : {start : Token} → start ≡ blank_token → Bytes s → {before after : List ℕ} {token : Token}
       → Ran start policy s n before after token
-      → RanSheet s before after (record { checked = Good policy n; token = token })
+      → RanSheet s before after (record { checked = Ok (record { policy = policy; count = n }); token = token })
   run_leaves {start} e bytes {before} {after} {token} ran =
       let facts = (checked_good s policy n).0 is_good in
       let most = good_most s is_good in
@@ -61,7 +62,7 @@ module _ (s : List ℕ) {c : Checked} {policy n : ℕ} (found : c ≡ checked s)
       record {
         is_checked = sym is_good;
         leaves =
-            subst (λ (f : Option ℕ). RunOrNot f s before after (record { checked = Good policy n; token = token })) (sym facts.no_fault)
+            subst (λ (f : Option ℕ). RunOrNot f s before after (record { checked = Ok (record { policy = policy; count = n }); token = token })) (sym facts.no_fault)
             (record {
               policy = p;
               commands = read_commands s (count s);
@@ -75,7 +76,7 @@ module _ (s : List ℕ) {c : Checked} {policy n : ℕ} (found : c ≡ checked s)
       }
 
 -- a malformed sheet leaves everything as it was
-pub not_run : (s : List ℕ) {c : Checked} {place : ℕ} → c ≡ checked s → c ≡ Malformed place → {start : Token} → start ≡ blank_token
+pub not_run : (s : List ℕ) {c : Either Header Malformed} {place : ℕ} → c ≡ checked s → c ≡ Err (record { place = place }) → {start : Token} → start ≡ blank_token
     → {before : List ℕ}
     → RanSheet s before before (record { checked = c; token = start })
 not_run s {c} {place} found bad {start} e {before} =

@@ -1,5 +1,6 @@
 -- What running a sheet tells, by what the sheet was found to be: of a good one its policy and commands, what was said, the state at
 -- the end and the known list. Rests on KnownShown, and on the reader's and the sheets' laws.
+use Rattle.std.specs.Prelude.{Err, Ok}
 use Prim.Native.Nat.{ℕ, ◌≤◌}
 use native.Mathlib.Omega.{arith}
 use mathlib.Core.Path.{◌≡◌, sym, ap, ◌∙◌, subst}
@@ -18,7 +19,6 @@ use Rattle.sheets.specs.Reading.{read_policy}
 use Rattle.sheets.proofs.Reports.{records_length}
 use Rattle.sheets.proofs.Calls.{over_length}
 use Rattle.sheets.proofs.Good.{sheet_begins, sheet_read}
-use Rattle.reader.specs.declared.Checked.TheVariants.{Good, Malformed}
 use Rattle.reader.specs.Reader.{checked}
 use Rattle.reader.proofs.GoodEntries.{checked_good, checked_malformed, good_most}
 use Rattle.running.specs.declared.Ran.{Ran}
@@ -40,12 +40,12 @@ module _ {s start records : List ℕ} {r : Ran} (ran : RanSheet s start records 
   records_kept long = left_long s start records r (first_fault s) ran.leaves long
 
   -- a malformed sheet has its first fault at the place
-  pub fault_told : {place : ℕ} → r.checked ≡ Malformed place → first_fault s ≡ some place
+  pub fault_told : {place : ℕ} → r.checked ≡ Err (record { place = place }) → first_fault s ≡ some place
   fault_told {place} e = (checked_malformed s place).0 (sym ran.is_checked ∙ e)
 
   -- a good one has run
-  module _ {policy n : ℕ} (e : r.checked ≡ Good policy n) where
-    good : checked s ≡ Good policy n
+  module _ {policy n : ℕ} (e : r.checked ≡ Ok (record { policy = policy; count = n })) where
+    good : checked s ≡ Ok (record { policy = policy; count = n })
     good = sym ran.is_checked ∙ e
 
     pub few_commands : n ≤ most_commands

@@ -1,12 +1,15 @@
 -- What a command sees of the handles and terms that it names, where the token shows a state: a handle is dead, or live with the
 -- slot of its key; a term number is missing, or there with the entry of its term. Rests on SeenParts and the rules crate's Sound.
+use Rattle.shapes.specs.declared.Entry.{Entry}
+use Rattle.shapes.specs.declared.Slot.{Slot}
+use Rattle.std.specs.Prelude.{Option}
 use Prim.Native.Nat.{ℕ, zero, suc, ◌<◌}
 use native.Mathlib.Omega.{arith}
 use mathlib.Core.Path.{◌≡◌, refl, sym, ap, ◌∙◌}
 use mathlib.Core.Bool.{true, not, false≢true}
 use mathlib.Core.List.Memᴰ
 use mathlib.Core.List.{List, [], ◌∷◌}
-use mathlib.Core.Option.{Option, none, some}
+use mathlib.Core.Option.{Option as Maybe, none, some}
 use lib.Dec.{ltb}
 use lib.ListN.{length, get_or, get_elem?}
 use borrow.Author.Tests.{lt-ltb, ltb-true}
@@ -20,8 +23,6 @@ use Rattle.rules.specs.Refusals.{sealed_under}
 use Rattle.rules.specs.Computing.{judge}
 use Rattle.rules.proofs.Sound.{Sound}
 use Rattle.token.specs.declared.Token.{Token}
-use Rattle.deciding.specs.declared.Handle.{Handle}
-use Rattle.deciding.specs.declared.Lookup.{Lookup}
 use Rattle.handles.specs.Live.{bit}
 use Rattle.token.specs.Shows.{entry_for, entry_of, slot_for, Shows}
 use Rattle.shapes.specs.Entries.{is_key_kind, key_of, is_sealed_under, payload_no, is_held}
@@ -60,10 +61,10 @@ payload_seen s k n e =
     rw (term_or s.now n) (entry_payload s k (get_elem? s.now.table n) (rw (term_or s.now n) at e))
 
 -- the handle and the term that are seen for a number
-abbrev pub handle_of : State → ℕ → Handle
+abbrev pub handle_of : State → ℕ → Option Slot
 handle_of s h = handle_for s.now.table (slot s.now h)
 
-abbrev pub lookup_of : State → ℕ → Lookup
+abbrev pub lookup_of : State → ℕ → Option Entry
 lookup_of s n = lookup_for s (get_elem? s.now.table n)
 
 -- what is asked of a term that is looked up
@@ -108,7 +109,7 @@ module _ {s : State} (sound : Sound s) where
   unfolding is_term term_at
   term_there n e =
       let at = below_at s.now.table n (ltb-true n (length s.now.table) e) in
-      at.1 ∙ ap {B = Option Term} some (sym (at_get_d s.now.table n (item 0) at.1))
+      at.1 ∙ ap {B = Maybe Term} some (sym (at_get_d s.now.table n (item 0) at.1))
 
   -- it is in the table, at that number
   pub term_in : (n : ℕ) → is_term s.now n ≡ true → term_at s.now n ∈ s.now.table
@@ -119,7 +120,7 @@ module _ {s : State} (sound : Sound s) where
       sound.counted.shape.once {i = number_of s.now.table (term_at s.now n)} (number_at (term_in n e)) (term_there n e)
 
   -- the payload of a seal is in the table
-  payload_at : (n k : ℕ) (x : Option Term) → get_elem? s.now.table n ≡ x → sealed_under k (or_item x) ≡ true →
+  payload_at : (n k : ℕ) (x : Maybe Term) → get_elem? s.now.table n ≡ x → sealed_under k (or_item x) ≡ true →
       payload (or_item x) ∈ s.now.table
   unfolding sealed_under or_item payload
   payload_at n k none at e = absurd (false≢true e)

@@ -1,21 +1,21 @@
 -- The number that a new handle takes, as a command sees it where the token shows a state: none where all are live, else the rules'
 -- new handle. Rests on LiveWords and the rules crate's Sound.
+use Rattle.std.specs.Prelude.{None, Option, Some}
+use Rattle.shapes.specs.declared.HandleNo.{HandleNo}
 use mathlib.Core.Path.{◌≡◌}
 use mathlib.Core.Bool.{true, false, cond}
 use Rattle.terms.proofs.Lists.{bool_cases}
 use Rattle.rules.specs.State.{State, Now, new_handle, all_live}
 use Rattle.rules.proofs.Sound.{Sound}
 use Rattle.token.specs.declared.Token.{Token}
-use Rattle.shapes.specs.declared.Free.{Free}
-use Rattle.shapes.specs.declared.Free.TheVariants.{At, Full}
 use Rattle.handles.specs.Live.{free_in}
 use Rattle.token.specs.Shows.{Shows}
 use Rattle.deciding.specs.Decisions.{is_full, free_handle}
 use Rattle.handles.proofs.LiveWords.{free_shown}
 
 -- the free number that is seen in a state
-unfoldable pub free_for : Now → Free
-free_for now = cond (all_live now) Full (At (record { 0 = new_handle now }))
+unfoldable pub free_for : Now → Option HandleNo
+free_for now = cond (all_live now) None (Some (record { 0 = new_handle now }))
 
 pub free_seen : {t : Token} {s : State} → Sound s → Shows t s → free_in t.hands.live ≡ free_for s.now
 unfolding free_for

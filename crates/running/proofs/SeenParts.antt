@@ -1,10 +1,12 @@
 -- What is asked of a slot or an entry is what the rules ask of the handle or the term that it stands beside: case by case, of a
 -- handle dead or live, and of a place of the table with a term or past its end. Rests on the definitions alone.
+use Rattle.shapes.specs.declared.Slot.{Slot}
+use Rattle.std.specs.Prelude.{None, Option, Some}
 use Prim.Native.Nat.{ℕ, zero, suc}
 use mathlib.Core.Path.{◌≡◌, refl, ap, ◌∙◌}
 use mathlib.Core.Bool.{Bool, true, false, not, true≢false, false≢true}
 use mathlib.Core.List.{[], ◌∷◌}
-use mathlib.Core.Option.{Option, none, some}
+use mathlib.Core.Option.{Option as Maybe, none, some}
 use lib.Dec.{ltb, leb-zero, leb-suc-zero, leb-suc-suc}
 use lib.ListN.{length, get_or, get_elem?}
 use Rattle.terms.specs.Terms.{Term, Table, item, key, seal, number_of}
@@ -14,10 +16,6 @@ use Rattle.rules.specs.State.{Slot as Hand}
 use Rattle.rules.specs.Refusals.{sealed_under}
 use Rattle.rules.specs.Computing.{judged}
 use Rattle.shapes.specs.declared.Entry.{Entry}
-use Rattle.deciding.specs.declared.Handle.{Handle}
-use Rattle.deciding.specs.declared.Handle.TheVariants.{Live, Dead}
-use Rattle.deciding.specs.declared.Lookup.{Lookup}
-use Rattle.deciding.specs.declared.Lookup.TheVariants.{There, Nothing}
 use Rattle.token.specs.Shows.{entry_for, slot_for}
 use Rattle.shapes.specs.Entries.{is_key_kind, key_of, is_sealed_under, payload_no, is_held}
 use Rattle.deciding.specs.Decisions.{is_dead, slot_in, is_missing, entry_in}
@@ -25,9 +23,9 @@ use Rattle.running.specs.Views.{handle_in, lookup_in}
 use Rattle.running.proofs.ChangeFor.{held_in}
 
 -- the handle that is seen for a handle of the state
-unfoldable pub handle_for : Table → Hand → Handle
-handle_for table dead = Dead
-handle_for table (live k f) = Live (slot_for table (live k f))
+unfoldable pub handle_for : Table → Hand → Option Slot
+handle_for table dead = None
+handle_for table (live k f) = Some (slot_for table (live k f))
 
 -- what is asked of a handle that is seen
 pub seen_dead : (table : Table) (x : Hand) → is_dead (handle_for table x) ≡ not (is_live x)
@@ -70,7 +68,7 @@ handle_in_lem table dead = refl
 handle_in_lem table (live k f) = refl
 
 -- the term at a place of the table, an item past its end
-unfoldable pub or_item : Option Term → Term
+unfoldable pub or_item : Maybe Term → Term
 or_item none = item 0
 or_item (some m) = m
 
@@ -81,12 +79,12 @@ get_d_or (m ∷ table) zero = refl
 get_d_or (m ∷ table) (suc n) = get_d_or table n
 
 -- the term that is seen for a place of the table
-unfoldable pub lookup_for : State → Option Term → Lookup
-lookup_for s none = Nothing
-lookup_for s (some m) = There (entry_for s (some m))
+unfoldable pub lookup_for : State → Maybe Term → Option Entry
+lookup_for s none = None
+lookup_for s (some m) = Some (entry_for s (some m))
 
 -- whether there is a term at the place
-unfoldable pub is_there : Option Term → Bool
+unfoldable pub is_there : Maybe Term → Bool
 is_there none = false
 is_there (some m) = true
 
@@ -97,23 +95,23 @@ below_there (m ∷ table) zero = leb-suc-suc 0 (length table) ∙ leb-zero (leng
 below_there (m ∷ table) (suc n) = leb-suc-suc (suc n) (length table) ∙ below_there table n
 
 -- what is asked of a term that is seen
-pub seen_there : (s : State) (x : Option Term) → is_missing (lookup_for s x) ≡ not (is_there x)
+pub seen_there : (s : State) (x : Maybe Term) → is_missing (lookup_for s x) ≡ not (is_there x)
 unfolding lookup_for is_there
 seen_there s none = refl
 seen_there s (some m) = refl
 
-pub seen_entry : (s : State) (x : Option Term) → entry_in (lookup_for s x) ≡ entry_for s x
+pub seen_entry : (s : State) (x : Maybe Term) → entry_in (lookup_for s x) ≡ entry_for s x
 unfolding lookup_for entry_for
 seen_entry s none = refl
 seen_entry s (some m) = refl
 
 -- a lookup sees the term of the place, where the entry that is read there is the term's
-pub lookup_in_lem : (s : State) (x : Option Term) (e : Entry) (b : Bool) → b ≡ is_there x → (b ≡ true → e ≡ entry_for s x) →
+pub lookup_in_lem : (s : State) (x : Maybe Term) (e : Entry) (b : Bool) → b ≡ is_there x → (b ≡ true → e ≡ entry_for s x) →
     lookup_in b e ≡ lookup_for s x
 unfolding lookup_for is_there
 lookup_in_lem s none e true q same = absurd (true≢false q)
 lookup_in_lem s none e false q same = refl
-lookup_in_lem s (some m) e true q same = ap There (same refl)
+lookup_in_lem s (some m) e true q same = ap Some (same refl)
 lookup_in_lem s (some m) e false q same = absurd (false≢true q)
 
 -- what is asked of an entry: is its term held, is it a key and which, is it sealed under a key
@@ -123,28 +121,28 @@ entry_held s (item n) = refl
 entry_held s (key k) = refl
 entry_held s (seal k m) = refl
 
-pub entry_judged : (s : State) (x : Option Term) → is_held (entry_for s x) ≡ judged s x
+pub entry_judged : (s : State) (x : Maybe Term) → is_held (entry_for s x) ≡ judged s x
 unfolding entry_for judged held_by_following
 entry_judged s none = refl
 entry_judged s (some (item n)) = refl
 entry_judged s (some (key k)) = refl
 entry_judged s (some (seal k m)) = refl
 
-pub entry_is_key : (s : State) (x : Option Term) → is_key_kind (entry_for s x).term ≡ is_key (or_item x)
+pub entry_is_key : (s : State) (x : Maybe Term) → is_key_kind (entry_for s x).term ≡ is_key (or_item x)
 unfolding entry_for is_key or_item
 entry_is_key s none = refl
 entry_is_key s (some (item n)) = refl
 entry_is_key s (some (key k)) = refl
 entry_is_key s (some (seal k m)) = refl
 
-pub entry_key : (s : State) (x : Option Term) → key_of (entry_for s x).term ≡ record { 0 = key_number (or_item x) }
+pub entry_key : (s : State) (x : Maybe Term) → key_of (entry_for s x).term ≡ record { 0 = key_number (or_item x) }
 unfolding entry_for key_number or_item
 entry_key s none = refl
 entry_key s (some (item n)) = refl
 entry_key s (some (key k)) = refl
 entry_key s (some (seal k m)) = refl
 
-pub entry_under : (s : State) (k : ℕ) (x : Option Term) →
+pub entry_under : (s : State) (k : ℕ) (x : Maybe Term) →
     is_sealed_under (record { 0 = k }) (entry_for s x).term ≡ sealed_under k (or_item x)
 unfolding entry_for sealed_under or_item
 entry_under s k none = refl
@@ -152,7 +150,7 @@ entry_under s k (some (item n)) = refl
 entry_under s k (some (key j)) = refl
 entry_under s k (some (seal j m)) = refl
 
-pub entry_payload : (s : State) (k : ℕ) (x : Option Term) → sealed_under k (or_item x) ≡ true →
+pub entry_payload : (s : State) (k : ℕ) (x : Maybe Term) → sealed_under k (or_item x) ≡ true →
     payload_no (entry_for s x).term ≡ record { 0 = number_of s.now.table (payload (or_item x)) }
 unfolding entry_for sealed_under or_item payload
 entry_payload s k none e = absurd (false≢true e)
@@ -161,7 +159,7 @@ entry_payload s k (some (key j)) e = absurd (false≢true e)
 entry_payload s k (some (seal j m)) e = refl
 
 -- a place with a sealed term has a term
-pub sealed_is_there : (k : ℕ) (x : Option Term) → sealed_under k (or_item x) ≡ true → is_there x ≡ true
+pub sealed_is_there : (k : ℕ) (x : Maybe Term) → sealed_under k (or_item x) ≡ true → is_there x ≡ true
 unfolding sealed_under or_item is_there
 sealed_is_there k none e = absurd (false≢true e)
 sealed_is_there k (some m) e = refl

@@ -1,10 +1,12 @@
 -- The equal of a seal that a command would make, where the token shows a state: it is found at its number where it is in the
 -- table, and is new where it is not. Rests on Codes, Seen and the rules crate's Sound.
+use Rattle.shapes.specs.declared.TermNo.{TermNo}
+use Rattle.std.specs.Prelude.{None, Option, Some}
 use Prim.Native.Nat.{ℕ, ◌<◌}
 use native.Mathlib.Omega.{arith}
 use mathlib.Core.Path.{◌≡◌, refl, sym, ap, ◌∙◌}
 use mathlib.Core.Bool.{true, false, cond}
-use mathlib.Core.Option.{Option, none, some}
+use mathlib.Core.Option.{Option as Maybe, none, some}
 use lib.ListN.{get_or, get_elem?}
 use Rattle.terms.specs.Lists.{◌∈◌}
 use Rattle.terms.specs.Terms.{Term, Table, item, key, seal, listed, number_of}
@@ -14,28 +16,26 @@ use Rattle.rules.specs.State.{State, most_terms}
 use Rattle.rules.proofs.Sound.{Sound}
 use Rattle.shapes.specs.declared.Entry.{Entry}
 use Rattle.token.specs.declared.Token.{Token}
-use Rattle.deciding.specs.declared.Equal.{Equal}
-use Rattle.deciding.specs.declared.Equal.TheVariants.{At, New}
 use Rattle.token.specs.Shows.{entry_for, entry_of, seal_code, code_of, Shows}
 use Rattle.running.specs.Views.{equal_in}
 use Rattle.running.proofs.Codes.{equal_found, equal_none, seal_code_same}
 use Rattle.running.proofs.Seen.{number_below, number_one}
 
 -- the equal that is seen for a term that may be in the table
-unfoldable pub equal_for : Table → Term → Equal
-equal_for table m = cond (listed table m) (At (record { 0 = number_of table m })) New
+unfoldable pub equal_for : Table → Term → Option TermNo
+equal_for table m = cond (listed table m) (Some (record { 0 = number_of table m })) None
 
 module _ {t : Token} {s : State} (sound : Sound s) (shows : Shows t s) where
   -- the code of a number is the code of the entry beside its term
-  code_at : (i : ℕ) {x : Option Term} → i < most_terms → get_elem? s.now.table i ≡ x →
+  code_at : (i : ℕ) {x : Maybe Term} → i < most_terms → get_elem? s.now.table i ≡ x →
       get_or t.links.codes i 0 ≡ code_of (entry_for s x).term
   unfolding entry_of
   code_at i {x} l e =
       shows.links_shown.codes_shown i l ∙ ap (λ (y : Entry). code_of y.term) (shows.entries_shown i l) ∙
-      ap (λ (y : Option Term). code_of (entry_for s y).term) e
+      ap (λ (y : Maybe Term). code_of (entry_for s y).term) e
 
   -- a term whose entry has the code of a seal is that seal
-  seal_at : (i k : ℕ) {m : Term} (x : Option Term) → m ∈ s.now.table → get_elem? s.now.table i ≡ x →
+  seal_at : (i k : ℕ) {m : Term} (x : Maybe Term) → m ∈ s.now.table → get_elem? s.now.table i ≡ x →
       code_of (entry_for s x).term ≡ seal_code k (number_of s.now.table m) → get_elem? s.now.table i ≡ some (seal k m)
   unfolding entry_for code_of
   seal_at i k none h at e = absurd (omega arith)
@@ -66,7 +66,7 @@ module _ {t : Token} {s : State} (sound : Sound s) (shows : Shows t s) where
 
       found : seal k m ∈ s.now.table →
           equal_in t.links.codes (seal_code k (number_of s.now.table m)) ≡
-          At (record { 0 = number_of s.now.table (seal k m) })
+          Some (record { 0 = number_of s.now.table (seal k m) })
       found there =
           let room = shows.room in
           let fits : number_of s.now.table (seal k m) < most_terms = omega (arith, number_below there) in

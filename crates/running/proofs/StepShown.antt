@@ -21,28 +21,38 @@ use Rattle.rules.proofs.SoundKept.{sound}
 use Rattle.rules.proofs.Judging.{judge_judges}
 use Rattle.sheets.specs.Sheets.{Holdable}
 use Rattle.sheets.specs.Reading.{read_policy}
+use Rattle.std.specs.Prelude.{Result, Err}
 use Rattle.shapes.specs.declared.Command.{Command as Stored}
+use Rattle.deciding.specs.declared.Refusal.{Refusal}
+use Rattle.running.specs.Said.{answer_of, value_of}
 use Rattle.deciding.specs.declared.Change.{Change}
-use Rattle.deciding.specs.declared.Decision.{Decision}
+use Rattle.deciding.specs.Decisions.{Decision}
 use Rattle.deciding.specs.declared.View.{View}
 use Rattle.token.specs.declared.Token.{Token}
 use Rattle.shapes.specs.declared.Entry.{Entry}
 use Rattle.token.specs.Shows.{Shows, blank_entry, entry_of, entry_for, code_of}
 use Rattle.shapes.specs.Commands.{stored_command}
-use Rattle.deciding.specs.Decisions.{decided}
+use Rattle.deciding.specs.Decisions.{decided, number, refused_with}
 use Rattle.running.specs.Views.{view_of, Findable}
 use Rattle.running.specs.Applied.{Applicable, Applied}
 use Rattle.running.specs.Direct.{ComesFrom, Reached, SteppedBy}
+use Rattle.running.specs.Advance.{Stepped}
 use Rattle.running.proofs.ChangeFor.{value_for}
 use Rattle.running.proofs.DecidedBy.{refusal_for, Decides, policy_read}
 use Rattle.running.proofs.Decided.{decides}
 use Rattle.running.proofs.Changed.{changed}
 use Rattle.running.proofs.ChangedRoom.{changed_room}
 
+-- a token that shows the rules' next state, where the decision is what the rules answer
+record StepMade (p : Policy) (s : State) (c : Command) (d : Decision) (r : Token) : Type 0 where
+  pub next : State
+  pub step : Step p s c (record { answer = d.answer; value = d.value }) next
+  pub shows_next : Shows r next
+
 -- what a decision of the rules makes of a token
 record StepMakes (p : Policy) (s : State) (c : Command) (t : Token) (d : Decision) : Type 0 where
   pub applicable : Applicable t d.change
-  pub steps : (r : Token) → Applied t d.change r → SteppedBy p s c (record { token = r; answer = d.answer; value = d.value })
+  pub steps : (r : Token) → Applied t d.change r → StepMade p s c d r
 
 -- a number is 0 or not
 zero_or : {C : Type 0} (n : ℕ) → (n ≡ 0 → C) → ((m : ℕ) → n ≡ suc m → C) → C
@@ -156,7 +166,19 @@ module _ {token : Token} {policy : ℕ} {command : Stored} {seen : View} {d : De
   pub step_applicable : Reached token policy → (c : Command) → Holdable c → command ≡ stored_command c → Applicable token d.change
   step_applicable reached c holdable e = (makes reached.under reached.state c reached.comes holdable e).applicable
 
-  pub step_stepped : {r : Token} → Applied token d.change r
+  pub step_stepped : {r : Token} → Applied token d.change r → {said : Result ℕ Refusal} → answer_of said ≡ d.answer → value_of said ≡ d.value
       → (p : Policy) (s : State) (c : Command) → ComesFrom token policy p s → Holdable c → command ≡ stored_command c
-      → SteppedBy p s c (record { token = r; answer = d.answer; value = d.value })
-  step_stepped {r} applied p s c comes holdable e = (makes p s c comes holdable e).steps r applied
+      → SteppedBy p s c (record { token = r; said = said })
+  step_stepped {r} applied answers values p s c comes holdable e =
+      let by = (makes p s c comes holdable e).steps r applied in
+      record { next = by.next; step = rw (answers, values) by.step; shows_next = by.shows_next }
+
+-- a refusal says its number and value 0, and changes nothing
+pub refused_stepped : {d : Decision} (t : Token) (r : Refusal) → refused_with (number r) ≡ d → Stepped d t t (Err r)
+unfolding Applied
+refused_stepped t r e =
+    record {
+      answers = ap (λ (d : Decision). d.answer) e;
+      values = ap (λ (d : Decision). d.value) e;
+      changes = subst (λ (d : Decision). Applied t d.change t) e refl;
+    }

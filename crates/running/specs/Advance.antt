@@ -1,5 +1,5 @@
 -- Commands in a row, run on a token where it stands. Assumes nothing.
-use Rattle.std.specs.Prelude.{ℕ, ◌+◌, ◌*◌, ◌/◌, ◌%◌, ◌≤◌, ◌≡◌, List, length, set}
+use Rattle.std.specs.Prelude.{ℕ, ◌+◌, ◌*◌, ◌/◌, ◌%◌, ◌≤◌, ◌≡◌, List, length, set, Result}
 use Rattle.std.proofs.Math.Option.{none}
 use Rattle.rules.specs.Templates.{Policy}
 use Rattle.rules.specs.Commands.{Command}
@@ -10,33 +10,34 @@ use Rattle.sheets.specs.Reports.{records_bytes}
 use Rattle.sheets.specs.Calls.{over}
 use Rattle.sheets.specs.Reading.{read_commands}
 use Rattle.shapes.specs.declared.Command.{Command as Stored}
-use Rattle.shapes.specs.declared.Command.TheVariants.{OwnKey}
-use Rattle.deciding.specs.declared.Change.{Change}
-use Rattle.deciding.specs.declared.Decision.{Decision}
-use Rattle.reader.specs.declared.Read.{Read}
-use Rattle.reader.specs.declared.Read.TheVariants.{Entry, NoEntry}
-use Rattle.reader.specs.Reader.{entry_at}
+use Rattle.deciding.specs.declared.Refusal.{Refusal}
+use Rattle.deciding.specs.Decisions.{Decision, decided}
 use Rattle.token.specs.declared.Token.{Token}
 use Rattle.token.specs.Shows.{Shows}
+use Rattle.running.specs.Said.{answer_of, value_of}
+use Rattle.running.specs.Views.{view_of, Findable}
+use Rattle.running.specs.Applied.{Applicable, Applied}
 use Rattle.running.specs.Direct.{ComesFrom, Reached}
-
--- the command of an entry, where there is one
-unfoldable pub command_of : Read → Stored
-command_of (Entry entry) = entry.command
-command_of NoEntry = OwnKey
-
-unfoldable pub command_in : List ℕ → ℕ → Stored
-command_in s i = command_of (entry_at s i)
 
 -- record i: the answer, and the value in two bytes
 abbrev pub record_put : (records : List ℕ) (i answer value : ℕ) → List ℕ
 record_put records i answer value =
     set (set (set records (3 * i) answer) (3 * i + 1) (value / 256)) (3 * i + 2) (value % 256)
 
--- a decision is told: its record is written, and its change given back
-pub record AnsweredBy (d : Decision) (i : ℕ) (before after : List ℕ) (change : Change) : Type 0 where
-  pub of_change : change ≡ d.change
-  pub of_record : after ≡ record_put before i d.answer d.value
+-- what is decided of a command on a token
+abbrev pub decision_on : (policy : ℕ) → Stored → Token → Decision
+decision_on policy c t = decided policy c (view_of t.table t.hands t.links.codes c)
+
+-- a token on which this decision can be come to and made
+pub record CanStep (d : Decision) (t : Token) : Type 0 where
+  pub findable : Findable t.links.heads t.links.chain t.links.codes
+  pub applicable : Applicable t d.change
+
+-- a command is stepped: what was decided is said, and its change is made
+pub record Stepped (d : Decision) (before after : Token) (said : Result ℕ Refusal) : Type 0 where
+  pub answers : answer_of said ≡ d.answer
+  pub values : value_of said ≡ d.value
+  pub changes : Applied before d.change after
 
 -- a good sheet's commands under a policy of document 01, on a token that comes from a fresh one, with room for their records
 pub record RunAsks (token : Token) (policy : ℕ) (s : List ℕ) (n : ℕ) (records : List ℕ) : Type 0 where

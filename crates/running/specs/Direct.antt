@@ -11,6 +11,7 @@ use Rattle.sheets.specs.Reading.{read_command}
 unfoldable pub use Rattle.shapes.specs.Commands.{no_command, not_a_call}
 use Rattle.token.specs.declared.Token.{Token}
 use Rattle.running.specs.declared.Called.{Called}
+use Rattle.running.specs.Said.{answer_of, value_of}
 use Rattle.token.specs.Shows.{Shows}
 
 -- a token's state: reached under one policy, which is the policy of this call where that is at most 2
@@ -27,13 +28,13 @@ pub record Reached (token : Token) (policy : ℕ) : Type 0 where
 -- what is given back where a command is stepped: the rules' answer and value, and a token that shows the rules' next state
 pub record SteppedBy (p : Policy) (s : State) (c : Command) (r : Called) : Type 0 where
   pub next : State
-  pub step : Step p s c (record { answer = r.answer; value = r.value }) next
+  pub step : Step p s c (record { answer = answer_of r.said; value = value_of r.said }) next
   pub shows_next : Shows r.token next
 
 -- what is given back, where the call is none, and where it is one
 pub record Refused1 (token : Token) (r : Called) : Type 0 where
-  pub answers_1 : r.answer ≡ 1
-  pub no_value : r.value ≡ 0
+  pub answers_1 : answer_of r.said ≡ 1
+  pub no_value : value_of r.said ≡ 0
   pub same_token : r.token ≡ token
 
 abbrev pub CallAnswer : (not_a_call : Bool) → Token → Policy → State → (number : ℕ) → (body : List ℕ) → Called → Type 0

@@ -2,7 +2,7 @@
 pub mod Views
 pub mod Leaks
 pub mod Applied
+pub mod Said
 pub mod Direct
 pub mod Advance
 pub mod Run
-pub mod OneCommand

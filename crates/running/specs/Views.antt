@@ -1,6 +1,6 @@
 -- What a command sees of the token's parts, as one function of them: the handles and terms that it names, and what hangs on
 -- these. A number past the end of an array reads as number 0 there; nothing is asked of what it reads. Assumes nothing.
-use Rattle.std.specs.Prelude.{ℕ, zero, suc, ◌≤◌, ◌≡◌, Bool, true, false, cond, List, eqb, ltb, length, get_or}
+use Rattle.std.specs.Prelude.{ℕ, zero, suc, ◌≤◌, ◌≡◌, Bool, true, false, cond, List, eqb, ltb, length, get_or, None, Option, Some}
 use Rattle.rules.specs.State.{most_terms}
 use Rattle.shapes.specs.declared.TermNo.{TermNo}
 use Rattle.shapes.specs.declared.HandleNo.{HandleNo}
@@ -8,12 +8,6 @@ use Rattle.shapes.specs.declared.Entry.{Entry}
 use Rattle.shapes.specs.declared.Slot.{Slot}
 use Rattle.token.specs.declared.Table.{Table}
 use Rattle.token.specs.declared.Hands.{Hands}
-use Rattle.deciding.specs.declared.Handle.{Handle}
-use Rattle.deciding.specs.declared.Handle.TheVariants.{Live, Dead}
-use Rattle.deciding.specs.declared.Lookup.{Lookup}
-use Rattle.deciding.specs.declared.Lookup.TheVariants.{There, Nothing}
-use Rattle.deciding.specs.declared.Equal.{Equal}
-use Rattle.deciding.specs.declared.Equal.TheVariants.{At, New}
 use Rattle.running.specs.declared.Looks.{Looks}
 use Rattle.running.specs.declared.Looks.TheVariants.{AtHandles, AtPayload, AtTerm, ByCaller}
 use Rattle.running.specs.declared.Names.{Names}
@@ -54,13 +48,13 @@ entry_at entries i = get_or entries (inside i) blank_entry
 abbrev pub slot_at : List Slot → ℕ → Slot
 slot_at slots h = get_or slots h blank_slot
 
-abbrev pub handle_in : (is_live : Bool) → Slot → Handle
-handle_in true slot = Live slot
-handle_in false slot = Dead
+abbrev pub handle_in : (is_live : Bool) → Slot → Option Slot
+handle_in true slot = Some slot
+handle_in false slot = None
 
-abbrev pub lookup_in : (is_term : Bool) → Entry → Lookup
-lookup_in true entry = There entry
-lookup_in false entry = Nothing
+abbrev pub lookup_in : (is_term : Bool) → Entry → Option Entry
+lookup_in true entry = Some entry
+lookup_in false entry = None
 
 -- the code of the seal that the command would make
 unfoldable pub aim_of : Command → (a b : Slot) → (t : Entry) → ℕ
@@ -76,12 +70,12 @@ aim_of OwnData a b t = seal_code 0 0
 aim_of (Seal k n) a b t = seal_code (key_of t.term).0 n.0
 
 -- a link as an answer: one more than a number, or 0
-abbrev pub equal_at : (link : ℕ) → Equal
-equal_at zero = New
-equal_at (suc i) = At (record { 0 = i })
+abbrev pub equal_at : (link : ℕ) → Option TermNo
+equal_at zero = None
+equal_at (suc i) = Some (record { 0 = i })
 
 -- the last number with this code
-unfoldable pub equal_in : List ℕ → (code : ℕ) → Equal
+unfoldable pub equal_in : List ℕ → (code : ℕ) → Option TermNo
 equal_in codes code = equal_at (last (λ i. eqb (get_or codes i 0) code) most_terms)
 
 -- the chains of the buckets lead to every code
@@ -141,7 +135,7 @@ aim_in names a b first =
     aim_at names.looks (seal_code a.key.0 b.term.0) (seal_code (key_of first.term).0 names.u.0) (seal_code a.key.0 names.t.0)
 
 -- what is read, as a view: each of the two terms stands wherever a command may look for it
-unfoldable pub seen_in : Names → (live : List ℕ) → (a b : Slot) → (first other : Entry) → Equal → (terms : ℕ) → View
+unfoldable pub seen_in : Names → (live : List ℕ) → (a b : Slot) → (first other : Entry) → Option TermNo → (terms : ℕ) → View
 seen_in names live a b first other equal terms =
     record {
       a = handle_in (bit live names.a.0) a;

@@ -1,33 +1,35 @@
 // Runs commands on a token where it stands: each is looked at, decided on small values, and its change made.
 ghost use Rattle.std.specs.Prelude.{◌≡◌, ◌≤◌, ◌+◌, ◌*◌, length};
-ghost use Rattle.running.specs.Advance.{command_in, record_put, RunAsks, Ran};
+ghost use Rattle.running.specs.Advance.{record_put, decision_on, CanStep, Stepped, RunAsks, Ran};
+ghost use Rattle.running.specs.Said.{answer_of, value_of};
 
 use crate::apply::apply;
 use crate::look::look;
+use crate::numbers;
+use deciding::Refusal;
 use deciding::decide::decide;
-use reader::Read;
 use reader::handing::read_entry;
 use shapes::Command;
 use token::Token;
 
-// The command of an entry. A good sheet has all its entries; that one that is not there reads as OWN KEY is never met.
-fn command_in(sheet: &[u8], i: u16) -> Command
-    ensures { result ≡ command_in sheet.now i }
+// One command: its value, or why it is refused.
+pub fn step(token: &mut Token, policy: u8, command: Command) -> Result<u16, Refusal>
+    requires { CanStep (decision_on policy command token.old) token.old }
+    ensures { Stepped (decision_on policy command token.old) token.old token.new result }
 {
-    let read = read_entry(sheet, i);
-    let Read::Entry(entry) = read else {
-        return Command::OwnKey;
-    };
-    entry.command
+    let done = decide(policy, command, look(token, command))?;
+    apply(token, done.change);
+    Ok(done.value)
 }
 
 // Record i: the answer, and the value in two bytes.
-fn put_record(records: &mut [u8], i: u16, answer: u8, value: u16)
+fn put_record(records: &mut [u8], i: u16, said: Result<u16, Refusal>)
     requires { 3 * i + 3 ≤ length records.old }
-    ensures { records.new ≡ record_put records.old i answer value }
+    ensures { records.new ≡ record_put records.old i (answer_of said) (value_of said) }
 {
-    let at = 3 * (i as usize);
+    let (answer, value) = numbers(said);
     let [high, low] = value.to_be_bytes();
+    let at = 3 * (i as usize);
     records[at] = answer;
     records[at + 1] = high;
     records[at + 2] = low;
@@ -39,9 +41,8 @@ pub fn advance(token: &mut Token, policy: u8, sheet: &[u8], n: u16, records: &mu
     ensures { Ran token.old policy sheet.now n records.old records.new token.new }
 {
     for i in 0..n {
-        let command = command_in(sheet, i);
-        let decision = decide(policy, command, look(token, command));
-        put_record(records, i, decision.answer, decision.value);
-        apply(token, decision.change);
+        let entry = read_entry(sheet, i).unwrap();
+        let said = step(token, policy, entry.command);
+        put_record(records, i, said);
     }
 }

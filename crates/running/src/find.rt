@@ -4,7 +4,6 @@ ghost use Rattle.rules.specs.State.{most_terms};
 ghost use Rattle.token.specs.Shows.{bucket};
 ghost use Rattle.running.specs.Views.{Findable, equal_in};
 
-use deciding::Equal;
 use shapes::TermNo;
 use token::Links;
 
@@ -17,7 +16,7 @@ pub fn bucket_of(code: u32) -> usize
 }
 
 // The number of the seal with this code, where there is one.
-pub fn find(links: &Links, code: u32) -> Equal
+pub fn find(links: &Links, code: u32) -> Option<TermNo>
     requires findable { Findable links.now.heads links.now.chain links.now.codes }
     requires code_nonzero { 0 < code }
     ensures { result ≡ equal_in links.now.codes code }
@@ -27,9 +26,9 @@ pub fn find(links: &Links, code: u32) -> Equal
         let number = link - 1;
         let i = number as usize;
         if links.codes[i] == code {
-            return Equal::At(TermNo(number));
+            return Some(TermNo(number));
         }
         link = links.chain[i];
     }
-    Equal::New
+    None
 }

@@ -7,15 +7,16 @@ mod find;
 mod leaks;
 mod link;
 mod look;
-mod one;
 
+ghost use Rattle.std.specs.Prelude.{◌≡◌};
 ghost use Rattle.running.specs.Direct.{Reached, Answered};
+ghost use Rattle.running.specs.Said.{answer_of, value_of};
 ghost use Rattle.running.specs.Run.{RanSheet};
 
-use advance::advance;
-use one::{one_command, value_in};
-use reader::{Checked, check};
-use shapes::parse::not_a_call;
+use advance::{advance, step};
+use deciding::Refusal;
+use reader::{Header, Malformed, check};
+use shapes::parse::{not_a_call, parse};
 use shapes::{HandleNo, TermNo};
 use token::{Token, fresh};
 
@@ -39,18 +40,17 @@ pub struct Names {
     pub looks: Looks,
 }
 
-// What the direct call gives back.
+// What the direct call gives back: the token, and the value or why the command is refused.
 #[derive(Clone, Copy)]
 pub struct Called {
     pub token: Token,
-    pub answer: u8,
-    pub value: u16,
+    pub said: Result<u16, Refusal>,
 }
 
 // What running a sheet leaves: what the sheet was found to be, and the token at the end.
 #[derive(Clone, Copy)]
 pub struct Ran {
-    pub checked: Checked,
+    pub checked: Result<Header, Malformed>,
     pub token: Token,
 }
 
@@ -58,20 +58,15 @@ pub struct Ran {
 pub fn run(sheet: &[u8], records: &mut [u8; 12288]) -> Ran
     ensures { RanSheet sheet.now records.old records.new result }
 {
-    let start = fresh();
+    let mut token = fresh();
     let checked = check(sheet);
-    let Checked::Good(policy, n) = checked else {
-        return Ran {
-            checked,
-            token: start,
-        };
-    };
-    let mut token = start;
-    advance(&mut token, policy, sheet, n, records);
+    if let Ok(header) = checked {
+        advance(&mut token, header.policy, sheet, header.count, records);
+    }
     Ran { checked, token }
 }
 
-// The direct call: one command by its number and its body's bytes, run as a sheet of one command.
+// The direct call: one command by its number and its body's bytes.
 pub fn call(token: Token, policy: u8, number: u8, body: &[u8]) -> Called
     requires { Reached token policy }
     ensures { Answered token policy number body.now result }
@@ -79,18 +74,22 @@ pub fn call(token: Token, policy: u8, number: u8, body: &[u8]) -> Called
     if not_a_call(policy, number, body) {
         return Called {
             token,
-            answer: 1,
-            value: 0,
+            said: Err(Refusal::NotACall),
         };
     }
-    let sheet = one_command(policy, number, body);
-    let end = 6 + body.len();
-    let mut said = [0u8; 3];
+    let command = parse(number, body).unwrap();
     let mut next = token;
-    advance(&mut next, policy, &sheet[0..end], 1, &mut said);
-    Called {
-        token: next,
-        answer: said[0],
-        value: value_in(&said),
+    let said = step(&mut next, policy, command);
+    Called { token: next, said }
+}
+
+// What is said as numbers of document 01's table: the answer, and the value.
+pub fn numbers(said: Result<u16, Refusal>) -> (u8, u16)
+    ensures answer { result.0 ≡ answer_of said }
+    ensures value { result.1 ≡ value_of said }
+{
+    match said {
+        Ok(value) => (0, value),
+        Err(refusal) => (refusal as u8, 0),
     }
 }

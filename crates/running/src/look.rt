@@ -2,11 +2,11 @@
 ghost use Rattle.std.specs.Prelude.{◌≡◌, ◌<◌};
 ghost use Rattle.rules.specs.State.{most_terms};
 ghost use Rattle.token.specs.Shows.{seal_code};
-ghost use Rattle.running.specs.Views.{names_of, inside, first_at, other_at, handle_in, lookup_in, aim_in, Findable, SeesAlike};
+ghost use Rattle.running.specs.Views.{names_of, inside, first_at, other_at, aim_in, Findable, SeesAlike};
 
 use crate::find::find;
 use crate::{Looks, Names};
-use deciding::{Handle, Lookup, View};
+use deciding::View;
 use handles::{free, is_live};
 use shapes::entries::{key_of, payload_no};
 use shapes::{Command, Entry, HandleNo, KeyNo, Slot, TermNo};
@@ -134,35 +134,15 @@ pub fn look(token: &Token, command: Command) -> View
     let live = token.hands.live;
     let terms = token.table.terms;
     View {
-        a: handle_in(is_live(live, names.a), a),
-        b: handle_in(is_live(live, names.b), b),
-        t: lookup_in(names.t.0 < terms, first),
-        u: lookup_in(names.u.0 < terms, other),
+        a: is_live(live, names.a).then_some(a),
+        b: is_live(live, names.b).then_some(b),
+        t: (names.t.0 < terms).then_some(first),
+        u: (names.u.0 < terms).then_some(other),
         payload: other,
         outer: first,
         inner: other,
         equal,
         free: free(live),
         terms,
-    }
-}
-
-pub fn handle_in(live: bool, slot: Slot) -> Handle
-    ensures { result ≡ handle_in live slot }
-{
-    if live {
-        Handle::Live(slot)
-    } else {
-        Handle::Dead
-    }
-}
-
-pub fn lookup_in(there: bool, entry: Entry) -> Lookup
-    ensures { result ≡ lookup_in there entry }
-{
-    if there {
-        Lookup::There(entry)
-    } else {
-        Lookup::Nothing
     }
 }

@@ -1,17 +1,15 @@
--- `call` meets its contract: a call that is none answers 1, and any other is the run of the sheet of one command, whose record says the
--- answer and the value. Rests on CallShown.
+-- `call` meets its contract: a call that is none answers 1, and any other is the step of the command that it states (CallShown).
 use mathlib.Core.Path.{refl, sym, ◌∙◌}
-use native.Mathlib.Omega.{arith}
-use Rattle.running.proofs.CallShown.{short_body, one_asked, one_answered}
+use Rattle.running.proofs.CallShown.{call_parsed, call_steps, call_answered}
 use Rattle.running.proofs.call.Goals as goal
 
-pub slice_bounds-advance-end : goal.slice_bounds-advance-end
-slice_bounds-advance-end c = omega (arith, short_body _ _ _ (sym c.not_a_call.ensures ∙ c.if-not_a_call.false))
+pub unwrap-command-requires : goal.unwrap-command-requires
+unwrap-command-requires c = rw (c.parse.ensures, call_parsed _ _ _ (sym c.not_a_call.ensures ∙ c.if-not_a_call.false)) refl
 
-pub advance-requires : goal.advance-requires
-advance-requires c = one_asked _ _ _ (λ i. (c.shared_slice_known-1.given i).fits) (sym c.not_a_call.ensures ∙ c.if-not_a_call.false)
-    c.one_command-sheet.ensures c.requires refl
+pub step-said-requires : goal.step-said-requires
+step-said-requires c = call_steps _ _ _ (sym c.not_a_call.ensures ∙ c.if-not_a_call.false) (λ i. (c.type_inv.body i).fits) c.requires
+    (sym c.unwrap-command.ensures ∙ c.parse.ensures)
 
 pub returns : goal.returns
-returns c = one_answered _ _ _ (λ i. (c.shared_slice_known-1.given i).fits) (sym c.not_a_call.ensures ∙ c.if-not_a_call.false)
-    c.one_command-sheet.ensures c.advance.ensures c.value_in.ensures
+returns c = call_answered _ _ _ (sym c.not_a_call.ensures ∙ c.if-not_a_call.false) (λ i. (c.type_inv.body i).fits) c.requires
+    (sym c.unwrap-command.ensures ∙ c.parse.ensures) c.step-said.ensures

@@ -5,11 +5,11 @@ use borrow.Author.Rules.{rules}
 use Rattle.running.proofs.run.Goals as goal
 
 pub returns-in_default : goal.returns-in_default
-returns-in_default c = not_run _ c.check-checked.ensures c.in_default.is c.fresh-start.ensures
+returns-in_default c = not_run _ c.check-checked.ensures c.in_default.is c.fresh-token.ensures
 
 pub advance-requires : goal.advance-requires
-advance-requires c = run_asks _ c.check-checked.ensures c.in-Good.is c.fresh-start.ensures (search rules)
+advance-requires c = run_asks _ c.check-checked.ensures c.in-Ok.is c.fresh-token.ensures (search rules)
 
-pub returns : goal.returns
-returns c = run_leaves _ c.check-checked.ensures c.in-Good.is c.fresh-start.ensures
+pub returns-in-Ok : goal.returns-in-Ok
+returns-in-Ok c = run_leaves _ c.check-checked.ensures c.in-Ok.is c.fresh-token.ensures
     (bytes_of _ (λ i. (c.shared_slice_known-1.given i).fits)) c.advance.ensures

@@ -3,4 +3,4 @@ use Rattle.running.proofs.Stored.{seal_followable}
 use Rattle.running.proofs.apply.apply.Goals as goal
 
 pub follow-requires : goal.follow-requires
-follow-requires c = seal_followable c.requires c.in-NewSeal.is c.if-leaks.true c.append-in-NewSeal.ensures c.link.ensures
+follow-requires c = seal_followable _ c.requires c.in-NewSeal.is c.if-leaks.true c.append-in-NewSeal.ensures c.link.ensures

@@ -8,5 +8,5 @@ find-equal-requires-clause-code_nonzero c = rw c.aim_of.ensures (aim_positive _ 
 
 pub returns : goal.returns
 unfolding seen_in
-returns c = λ policy. rw (c.handle_in.ensures, c.is_live.ensures, c.handle_in-2.ensures, c.is_live-2.ensures, c.lookup_in.ensures, c.lookup_in-2.ensures, c.free.ensures)
+returns c = λ policy. rw (c.then_some.ensures, c.is_live.ensures, c.then_some-2.ensures, c.is_live-2.ensures, c.then_some-3.ensures, c.then_some-4.ensures, c.free.ensures)
     (decided_of_seen policy _ _ _ _ c.names_of-names.ensures c.first_at.ensures.value c.other_at.ensures.value c.aim_of.ensures c.find-equal.ensures)

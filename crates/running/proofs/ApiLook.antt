@@ -10,9 +10,9 @@ use Rattle.shapes.specs.declared.Slot.{Slot}
 use Rattle.shapes.specs.declared.TermNo.{TermNo}
 use Rattle.token.specs.declared.Table.{Table}
 use Rattle.token.specs.declared.Hands.{Hands}
-use Rattle.running.specs.declared.Looks.{Looks}
-use Rattle.running.specs.declared.Looks.TheVariants.{AtHandles, AtPayload, AtTerm, ByCaller}
-use Rattle.running.specs.declared.Names.{Names}
+use Rattle.running.specs.declared.look.Looks.{Looks}
+use Rattle.running.specs.declared.look.Looks.TheVariants.{AtHandles, AtPayload, AtTerm, ByCaller}
+use Rattle.running.specs.declared.look.Names.{Names}
 use Rattle.shapes.specs.declared.Command.{Command}
 use Rattle.shapes.specs.declared.Command.TheVariants.{Generate, Wrap, Unwrap, Encrypt, Decrypt, Corrupt, Destroy}
 use Rattle.shapes.specs.declared.Command.TheVariants.{OwnKey, OwnData, Seal}

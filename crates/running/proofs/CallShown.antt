@@ -7,7 +7,7 @@ use mathlib.Core.Bool.{Bool, true, false}
 use mathlib.Core.List.{List}
 use borrow.Author.Tests.{ltb-false, eqb-true, not-false}
 use lib.ListN.{length, get_or}
-use Rattle.std.specs.Prelude.{Option, Some, None, Result, Ok, Err}
+use Rattle.std.specs.Prelude.{Option, Some, None, Result, Err}
 use Rattle.terms.proofs.Lists.{in_at, at_get_d}
 use Rattle.rules.proofs.Named.{neither}
 use Rattle.sheets.specs.Bytes.{Bytes}
@@ -22,7 +22,6 @@ use Rattle.shapes.proofs.Parsing.{states}
 use Rattle.deciding.specs.declared.Refusal.{Refusal}
 use Rattle.deciding.specs.declared.Refusal.TheVariants.{NotACall}
 use Rattle.token.specs.declared.Token.{Token}
-use Rattle.running.specs.Said.{answer_of, value_of}
 use Rattle.running.specs.Direct.{no_command, not_a_call, Reached, CallAnswer, Answered}
 use Rattle.running.specs.Advance.{decision_on, CanStep, Stepped}
 use Rattle.running.proofs.StepShown.{findable, step_applicable, step_stepped}

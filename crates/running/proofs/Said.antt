@@ -1,6 +1,6 @@
 -- What is said is known by its numbers: two results with the same answer and the same value are equal. Rests on the refusals' numbers,
 -- of which no two are alike and none is 0.
-use mathlib.Core.Path.{◌≡◌, sym, ap}
+use mathlib.Core.Path.{◌≡◌, ap}
 use Prim.Native.Nat.{ℕ}
 use native.Mathlib.Omega.{arith}
 use Rattle.std.specs.Prelude.{Result, Ok, Err}

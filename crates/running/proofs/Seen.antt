@@ -27,7 +27,8 @@ use Rattle.handles.specs.Live.{bit}
 use Rattle.token.specs.Shows.{entry_for, entry_of, slot_for, Shows}
 use Rattle.shapes.specs.Entries.{is_key_kind, key_of, is_sealed_under, payload_no, is_held}
 use Rattle.deciding.specs.Decisions.{is_missing, entry_in}
-use Rattle.running.specs.Views.{entry_at, slot_at, handle_in, lookup_in}
+use Rattle.std.specs.Bool.{then_some}
+use Rattle.running.specs.Views.{entry_at, slot_at}
 use Rattle.running.proofs.SeenParts.{handle_for, handle_in_lem, lookup_for, lookup_in_lem, below_there, or_item, get_d_or}
 use Rattle.running.proofs.SeenParts.{seen_there, seen_entry, entry_judged, entry_is_key, entry_key, entry_under, entry_payload}
 use Rattle.running.proofs.SeenParts.{slot_term, sealed_is_there}
@@ -145,7 +146,7 @@ module _ {t : Token} {s : State} (shows : Shows t s) where
   slot_seen h l = shows.hands_shown.slots_shown h l
 
   pub handle_seen : (h : ℕ) → h < most_handles →
-      handle_in (bit t.hands.live h) (slot_at t.hands.slots h) ≡ handle_of s h
+      then_some (bit t.hands.live h) (slot_at t.hands.slots h) ≡ handle_of s h
   handle_seen h l =
       rw (shows.hands_shown.live_shown h l, slot_seen h l) (handle_in_lem s.now.table (slot s.now h))
 
@@ -158,7 +159,7 @@ module _ {t : Token} {s : State} (shows : Shows t s) where
 
   -- a term that is looked up
   pub lookup_seen : (n : ℕ) →
-      lookup_in (ltb n t.table.terms) (entry_at t.table.entries n) ≡ lookup_of s n
+      then_some (ltb n t.table.terms) (entry_at t.table.entries n) ≡ lookup_of s n
   unfolding entry_of
   lookup_seen n =
       rw shows.terms_shown

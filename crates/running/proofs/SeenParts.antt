@@ -19,7 +19,7 @@ use Rattle.shapes.specs.declared.Entry.{Entry}
 use Rattle.token.specs.Shows.{entry_for, slot_for}
 use Rattle.shapes.specs.Entries.{is_key_kind, key_of, is_sealed_under, payload_no, is_held}
 use Rattle.deciding.specs.Decisions.{is_dead, slot_in, is_missing, entry_in}
-use Rattle.running.specs.Views.{handle_in, lookup_in}
+use Rattle.std.specs.Bool.{then_some}
 use Rattle.running.proofs.ChangeFor.{held_in}
 
 -- the handle that is seen for a handle of the state
@@ -62,7 +62,7 @@ slot_term table dead e = absurd (false≢true e)
 slot_term table (live k f) e = refl
 
 -- a handle is seen as it stands in the state
-pub handle_in_lem : (table : Table) (x : Hand) → handle_in (is_live x) (slot_for table x) ≡ handle_for table x
+pub handle_in_lem : (table : Table) (x : Hand) → then_some (is_live x) (slot_for table x) ≡ handle_for table x
 unfolding handle_for is_live
 handle_in_lem table dead = refl
 handle_in_lem table (live k f) = refl
@@ -107,7 +107,7 @@ seen_entry s (some m) = refl
 
 -- a lookup sees the term of the place, where the entry that is read there is the term's
 pub lookup_in_lem : (s : State) (x : Maybe Term) (e : Entry) (b : Bool) → b ≡ is_there x → (b ≡ true → e ≡ entry_for s x) →
-    lookup_in b e ≡ lookup_for s x
+    then_some b e ≡ lookup_for s x
 unfolding lookup_for is_there
 lookup_in_lem s none e true q same = absurd (true≢false q)
 lookup_in_lem s none e false q same = refl

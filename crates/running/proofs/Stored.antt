@@ -1,7 +1,6 @@
 -- What a new seal leaks can be followed once the seal is entered and linked. Rests on specs/Applied.antt.
-use mathlib.Core.Path.{◌≡◌, sym, subst}
+use mathlib.Core.Path.{◌≡◌, subst}
 use mathlib.Core.Bool.{Bool, true}
-use Prim.Native.Nat.{ℕ}
 use Rattle.shapes.specs.declared.KeyNo.{KeyNo}
 use Rattle.shapes.specs.declared.TermNo.{TermNo}
 use Rattle.deciding.specs.declared.Change.{Change}

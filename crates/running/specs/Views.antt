@@ -1,6 +1,7 @@
 -- What a command sees of the token's parts, as one function of them: the handles and terms that it names, and what hangs on
 -- these. A number past the end of an array reads as number 0 there; nothing is asked of what it reads. Assumes nothing.
-use Rattle.std.specs.Prelude.{ℕ, zero, suc, ◌≤◌, ◌≡◌, Bool, true, false, cond, List, eqb, ltb, length, get_or, None, Option, Some}
+use Rattle.std.specs.Bool.{then_some}
+use Rattle.std.specs.Prelude.{ℕ, zero, suc, ◌≤◌, ◌≡◌, cond, List, eqb, ltb, length, get_or, None, Option, Some}
 use Rattle.rules.specs.State.{most_terms}
 use Rattle.shapes.specs.declared.TermNo.{TermNo}
 use Rattle.shapes.specs.declared.HandleNo.{HandleNo}
@@ -8,9 +9,9 @@ use Rattle.shapes.specs.declared.Entry.{Entry}
 use Rattle.shapes.specs.declared.Slot.{Slot}
 use Rattle.token.specs.declared.Table.{Table}
 use Rattle.token.specs.declared.Hands.{Hands}
-use Rattle.running.specs.declared.Looks.{Looks}
-use Rattle.running.specs.declared.Looks.TheVariants.{AtHandles, AtPayload, AtTerm, ByCaller}
-use Rattle.running.specs.declared.Names.{Names}
+use Rattle.running.specs.declared.look.Looks.{Looks}
+use Rattle.running.specs.declared.look.Looks.TheVariants.{AtHandles, AtPayload, AtTerm, ByCaller}
+use Rattle.running.specs.declared.look.Names.{Names}
 use Rattle.token.specs.declared.Token.{Token}
 use Rattle.deciding.specs.Decisions.{decided}
 use Rattle.deciding.specs.declared.View.{View}
@@ -48,14 +49,6 @@ entry_at entries i = get_or entries (inside i) blank_entry
 abbrev pub slot_at : List Slot → ℕ → Slot
 slot_at slots h = get_or slots h blank_slot
 
-abbrev pub handle_in : (is_live : Bool) → Slot → Option Slot
-handle_in true slot = Some slot
-handle_in false slot = None
-
-abbrev pub lookup_in : (is_term : Bool) → Entry → Option Entry
-lookup_in true entry = Some entry
-lookup_in false entry = None
-
 -- the code of the seal that the command would make
 unfoldable pub aim_of : Command → (a b : Slot) → (t : Entry) → ℕ
 aim_of (Generate f) a b t = seal_code 0 0
@@ -89,10 +82,10 @@ pub record Findable (heads chain codes : List ℕ) : Type 0 where
 unfoldable pub view_of : Table → Hands → (codes : List ℕ) → Command → View
 view_of table hands codes c =
     record {
-      a = handle_in (bit hands.live (names_of c).a.0) (slot_at hands.slots (names_of c).a.0);
-      b = handle_in (bit hands.live (names_of c).b.0) (slot_at hands.slots (names_of c).b.0);
-      t = lookup_in (ltb (names_of c).t.0 table.terms) (entry_at table.entries (names_of c).t.0);
-      u = lookup_in (ltb (names_of c).u.0 table.terms) (entry_at table.entries (names_of c).u.0);
+      a = then_some (bit hands.live (names_of c).a.0) (slot_at hands.slots (names_of c).a.0);
+      b = then_some (bit hands.live (names_of c).b.0) (slot_at hands.slots (names_of c).b.0);
+      t = then_some (ltb (names_of c).t.0 table.terms) (entry_at table.entries (names_of c).t.0);
+      u = then_some (ltb (names_of c).u.0 table.terms) (entry_at table.entries (names_of c).u.0);
       payload = entry_at table.entries (payload_no (entry_at table.entries (names_of c).t.0).term).0;
       outer = entry_at table.entries (slot_at hands.slots (names_of c).a.0).term.0;
       inner = entry_at table.entries (slot_at hands.slots (names_of c).b.0).term.0;
@@ -138,10 +131,10 @@ aim_in names a b first =
 unfoldable pub seen_in : Names → (live : List ℕ) → (a b : Slot) → (first other : Entry) → Option TermNo → (terms : ℕ) → View
 seen_in names live a b first other equal terms =
     record {
-      a = handle_in (bit live names.a.0) a;
-      b = handle_in (bit live names.b.0) b;
-      t = lookup_in (ltb names.t.0 terms) first;
-      u = lookup_in (ltb names.u.0 terms) other;
+      a = then_some (bit live names.a.0) a;
+      b = then_some (bit live names.b.0) b;
+      t = then_some (ltb names.t.0 terms) first;
+      u = then_some (ltb names.u.0 terms) other;
       payload = other;
       outer = first;
       inner = other;

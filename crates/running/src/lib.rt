@@ -17,28 +17,7 @@ use advance::{advance, step};
 use deciding::Refusal;
 use reader::{Header, Malformed, check};
 use shapes::parse::{not_a_call, parse};
-use shapes::{HandleNo, TermNo};
 use token::{Token, fresh};
-
-// The terms that a command looks at: its handles' own; the first that it names and what that seals; or the two that it names, of which
-// a command of the token has one. In the caller's own computing the first of the two is a key, under which it seals.
-#[derive(Clone, Copy)]
-pub enum Looks {
-    AtHandles,
-    AtPayload,
-    AtTerm,
-    ByCaller,
-}
-
-// The numbers that a command names, 0 where it names none, and where it looks.
-#[derive(Clone, Copy)]
-pub struct Names {
-    pub a: HandleNo,
-    pub b: HandleNo,
-    pub t: TermNo,
-    pub u: TermNo,
-    pub looks: Looks,
-}
 
 // What the direct call gives back: the token, and the value or why the command is refused.
 #[derive(Clone, Copy)]

@@ -5,12 +5,31 @@ ghost use Rattle.token.specs.Shows.{seal_code};
 ghost use Rattle.running.specs.Views.{names_of, inside, first_at, other_at, aim_in, Findable, SeesAlike};
 
 use crate::find::find;
-use crate::{Looks, Names};
 use deciding::View;
 use handles::{free, is_live};
 use shapes::entries::{key_of, payload_no};
 use shapes::{Command, Entry, HandleNo, KeyNo, Slot, TermNo};
 use token::Token;
+
+// The terms that a command looks at: its handles' own; the first that it names and what that seals; or the two that it names, of which
+// a command of the token has one. In the caller's own computing the first of the two is a key, under which it seals.
+#[derive(Clone, Copy)]
+pub enum Looks {
+    AtHandles,
+    AtPayload,
+    AtTerm,
+    ByCaller,
+}
+
+// The numbers that a command names, 0 where it names none, and where it looks.
+#[derive(Clone, Copy)]
+pub struct Names {
+    pub a: HandleNo,
+    pub b: HandleNo,
+    pub t: TermNo,
+    pub u: TermNo,
+    pub looks: Looks,
+}
 
 // A command that names nothing.
 const NAMELESS: Names = Names {
@@ -33,30 +52,20 @@ pub fn names_of(command: Command) -> Names
             looks: Looks::AtHandles,
             ..NAMELESS
         },
-        Command::Unwrap(a, t, _) => Names {
+        Command::Unwrap(a, t, _) | Command::Decrypt(a, t) => Names {
             a,
             t,
             looks: Looks::AtPayload,
             ..NAMELESS
         },
         Command::Encrypt(a, t) => Names { a, t, ..NAMELESS },
-        Command::Decrypt(a, t) => Names {
-            a,
-            t,
-            looks: Looks::AtPayload,
-            ..NAMELESS
-        },
         Command::Corrupt(a) => Names {
             a,
             looks: Looks::AtHandles,
             ..NAMELESS
         },
         Command::Destroy(a) => Names { a, ..NAMELESS },
-        Command::OwnKey => Names {
-            looks: Looks::ByCaller,
-            ..NAMELESS
-        },
-        Command::OwnData => Names {
+        Command::OwnKey | Command::OwnData => Names {
             looks: Looks::ByCaller,
             ..NAMELESS
         },

@@ -3,11 +3,11 @@
 use Prim.Native.Nat.{ℕ, suc, ◌<◌}
 use mathlib.Core.Path.{◌≡◌, refl, sym, ◌∙◌, ap, subst, fun_ext}
 use mathlib.Core.Bool.{true}
-use mathlib.Core.List.{List}
+use mathlib.Core.List.{List, [], ◌∷◌}
 use mathlib.Core.Logic.{inl, inr, ⊎_elim}
 use native.Mathlib.Omega.{arith}
 use lib.Dec.{ltb}
-use lib.ListN.{length, get_or, length-set}
+use lib.ListN.{length, length-set}
 use borrow.Author.Tests.{ltb-true, ltb-false}
 use Rattle.terms.proofs.Lists.{bool_cases}
 use Rattle.rules.specs.State.{most_terms}
@@ -22,7 +22,7 @@ use Rattle.token.proofs.ChainsLast.{last_of_zero}
 use Rattle.running.proofs.LeakCount.{unheld, unheld_le, unheld_set}
 use Rattle.running.proofs.LeakMark.{marked, marked_kind, marked_own, marked_here, marked_still, marked_only}
 use Rattle.running.proofs.LeakSeals.{Ready, seal_below}
-use Rattle.running.proofs.LeakWalk.{Source, Walk, Due, held_now, waiting}
+use Rattle.running.proofs.LeakWalk.{Source, Walk, Due, held_now, waits, only_one}
 
 -- where the terms are the same, a leak leads to the same
 pub leak_same : (a b : List Entry) (t : ℕ) → ((i : ℕ) → kind_at a i ≡ kind_at b i) → (i : ℕ) → Leak a t i → Leak b t i
@@ -98,10 +98,10 @@ module _
     one_less : unheld entries ≡ suc (unheld (marked entries t))
     one_less = unheld_set entries t _ has_entry f.not_held refl
 
-    module _ (stack : List ℕ) (top : get_or stack 0 0 ≡ k.0) where
+    module _ {waiting : List ℕ} (one : waiting ≡ k.0 ∷ []) where
       due_begun : (q p i : ℕ) (j l : KeyNo) → held_at (marked entries t) q ≡ true → kind_at (marked entries t) q ≡ Key j →
           kind_at (marked entries t) i ≡ Seal j (record { 0 = p }) → kind_at (marked entries t) p ≡ Key l →
-          Due (marked entries t) stack 1 k.0 0 j.0 i p
+          Due (marked entries t) waiting k.0 0 j.0 i p
       due_begun q p i j l h x s y =
           let below : i < n = seal_below marked_ready i s in
           ⊎_elim
@@ -110,10 +110,10 @@ module _
           let is_key : kind_at entries t ≡ Key k = f.is_key in
           let is_key' : kind_at entries t ≡ Key j = rw e at (sym (marked_kind entries t q) ∙ x) in
           let same : k.0 ≡ j.0 = cc in
-          waiting 0 (omega arith) (top ∙ same))
+          waits (rw one (0, omega arith, same)))
           (marked_only entries t q h)
 
-      pub walk_begins : Walk (marked entries t) n t (marked entries t) stack 1 0
+      pub walk_begins : Walk (marked entries t) n t (marked entries t) waiting 0
       walk_begins =
           let is_key : kind_at (marked entries t) t ≡ Key k = marked_kind entries t t ∙ f.is_key in
           let source : Source (marked entries t) t k.0 = record { term = t; led = the_leak; is_key = is_key } in
@@ -126,8 +126,8 @@ module _
                   still_held = λ i h. h;
                   no_other = λ i h. inl h;
                 };
-            room = omega (arith, unheld_le entries, one_less, f.whole);
-            sources = λ x l. let first : x ≡ 0 = omega arith in rw (first, top) source;
+            room = rw one (omega (arith, unheld_le entries, one_less, f.whole));
+            sources = λ c there. subst (Source (marked entries t) t) (only_one (rw one at there)) source;
             key = k.0;
             source = source;
             bound = 0;

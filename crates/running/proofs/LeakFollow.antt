@@ -1,11 +1,11 @@
 -- Where `follow` of src/leaks.rt stands at the head of its loop: how it begins, and what it comes to at the end. Rests on the laws
 -- of a walk (LeakBegin.antt, LeakWalk.antt).
-use Prim.Native.Nat.{ℕ, ◌+◌, ◌*◌, ◌≤◌}
+use Prim.Native.Nat.{ℕ, ◌+◌, ◌*◌, ◌≤◌, ◌<◌}
 use mathlib.Core.Path.{◌≡◌, refl}
 use mathlib.Core.Bool.{true}
-use mathlib.Core.List.{List}
+use mathlib.Core.List.{List, [], ◌∷◌}
 use native.Mathlib.Omega.{arith}
-use lib.ListN.{length, get_or, set}
+use lib.ListN.{length, set}
 use Rattle.rules.specs.State.{most_terms}
 use Rattle.shapes.specs.declared.Entry.{Entry}
 use Rattle.shapes.specs.declared.KeyNo.{KeyNo}
@@ -22,17 +22,21 @@ use Rattle.running.proofs.LeakWalk.{Walk, walk_ends}
 use Rattle.running.proofs.LeakBegin.{leak_marked, marked_ready, walk_begins, followed_before}
 
 -- `first` is the table as the loop begins, with term t held
-pub record Following (newest older : List ℕ) (first : Table) (t : ℕ) (now : Table) (stack : List ℕ) (depth link : ℕ)
+pub record Following (newest older : List ℕ) (first : Table) (t : ℕ) (now : Table) (waiting : List ℕ) (link : ℕ)
     : Type 0 where
   pub ready : Ready first.entries newest older first.terms
   pub same_terms : now.terms ≡ first.terms
   pub same_keys : now.keys ≡ first.keys
-  pub long : length stack ≡ most_terms
-  pub walk : Walk first.entries first.terms t now.entries stack depth link
+  pub walk : Walk first.entries first.terms t now.entries waiting link
 
--- what falls with each turn: each key that waits on the stack, or may still come onto it, stands for a whole chain
-unfoldable pub left : Table → (depth link : ℕ) → ℕ
-left now depth link = (depth + unheld now.entries) * 1025 + link
+-- where no key can be taken none waits
+pub none_left : {waiting : List ℕ} → (0 < length waiting → ⊥) → waiting ≡ []
+none_left {waiting = []} h = refl
+none_left {waiting = c ∷ waiting} h = absurd (h (omega arith))
+
+-- what falls with each turn: each key that waits, or may still come to wait, stands for a whole chain
+unfoldable pub left : Table → (waiting : List ℕ) → (link : ℕ) → ℕ
+left now waiting link = (length waiting + unheld now.entries) * 1025 + link
 
 -- an entry of the table is replaced
 abbrev pub with_entry : Table → ℕ → Entry → Table
@@ -51,24 +55,23 @@ module _
     (f : Followable table.entries newest older table.terms t k)
     (held : HeldEntry table t e)
   where
-    -- the loop begins with term t held and its key on the stack
-    pub follow_begins : (stack : List ℕ) → get_or stack 0 0 ≡ k.0 → length stack ≡ most_terms →
-        Following newest older (with_entry table t e) t (with_entry table t e) stack 1 0
-    follow_begins stack top long =
+    -- the loop begins with term t held and its key waiting
+    pub follow_begins : {waiting : List ℕ} → waiting ≡ k.0 ∷ [] →
+        Following newest older (with_entry table t e) t (with_entry table t e) waiting 0
+    follow_begins one =
         rw held
         (record {
           ready = marked_ready f;
           same_terms = refl;
           same_keys = refl;
-          long = long;
-          walk = walk_begins f stack top;
+          walk = walk_begins f one;
         })
 
     -- with nothing left, the leak is followed
-    pub follow_ends : {now : Table} {stack : List ℕ} {depth link : ℕ} →
-        Following newest older (with_entry table t e) t now stack depth link → depth ≡ 0 → link ≡ 0 → TableFollowed table t now
-    follow_ends {now} {stack} i none done =
-        let walk : Walk (marked table.entries t) table.terms t now.entries stack 0 0 =
+    pub follow_ends : {now : Table} {waiting : List ℕ} {link : ℕ} →
+        Following newest older (with_entry table t e) t now waiting link → waiting ≡ [] → link ≡ 0 → TableFollowed table t now
+    follow_ends {now} i none done =
+        let walk : Walk (marked table.entries t) table.terms t now.entries [] 0 =
         rw (held, none, done) at i.walk in
         record {
           same_terms = i.same_terms;
@@ -77,13 +80,8 @@ module _
         }
 
 -- a link is 0, or one more than a number of the table
-pub link_inside : {newest older stack : List ℕ} {first now : Table} {t depth link : ℕ}
-    → Following newest older first t now stack depth link → link ≤ most_terms
+pub link_inside : {newest older waiting : List ℕ} {first now : Table} {t link : ℕ}
+    → Following newest older first t now waiting link → link ≤ most_terms
 link_inside {first = first} i =
     let low : last _ i.walk.bound ≤ i.walk.bound = last_le (under first.entries i.walk.key) i.walk.bound in
     omega (arith, i.walk.link_is, i.walk.within, i.ready.few)
-
--- the stack is not overrun
-pub depth_inside : {newest older stack : List ℕ} {first now : Table} {t depth link : ℕ}
-    → Following newest older first t now stack depth link → depth ≤ most_terms
-depth_inside i = omega (arith, i.walk.room)

@@ -15,7 +15,7 @@ use Rattle.shapes.specs.declared.Term.TheVariants.{Key, Seal}
 use Rattle.running.specs.Leaks.{kind_at, held_at}
 use Rattle.token.proofs.ChainsLast.{last_passes, last_above}
 use Rattle.running.proofs.LeakSeals.{Ready, SealUnder, under, seal_under, under_seal, seal_below, older_link}
-use Rattle.running.proofs.LeakWalk.{Walk, Due, held_now, waiting, ahead}
+use Rattle.running.proofs.LeakWalk.{Walk, Due, held_now, waits, ahead}
 
 -- the payload of seal i is held, or is no key
 abbrev pub Settled : (entries now : List Entry) (i : ℕ) → Type 0
@@ -27,20 +27,20 @@ module _
     {newest older : List ℕ}
     {n t : ℕ}
     {now : List Entry}
-    {stack : List ℕ}
-    {depth i : ℕ}
+    {waiting : List ℕ}
+    {i : ℕ}
     (r : Ready entries newest older n)
-    (w : Walk entries n t now stack depth (suc i))
+    (w : Walk entries n t now waiting (suc i))
   where
     -- the link leads to a seal under the key that is being walked
     pub reached : SealUnder entries w.key i
     reached = under_seal entries w.key i (last_passes (under entries w.key) w.bound i (sym w.link_is))
 
     due_passed : Settled entries now i → (i' p : ℕ) (j l : KeyNo) → kind_at entries i' ≡ Seal j (record { 0 = p }) →
-        kind_at entries p ≡ Key l → Due now stack depth w.key w.bound j.0 i' p →
-        Due now stack depth w.key i j.0 i' p
+        kind_at entries p ≡ Key l → Due now waiting w.key w.bound j.0 i' p →
+        Due now waiting w.key i j.0 i' p
     due_passed f i' p j l s m (held_now h) = held_now h
-    due_passed f i' p j l s m (waiting x b e) = waiting x b e
+    due_passed f i' p j l s m (waits there) = waits there
     due_passed f i' p j l s m (ahead same b) =
         bool_cases (ltb i' i) (λ x. ahead same (ltb-true i' i x))
         (λ x.
@@ -54,7 +54,7 @@ module _
         let here : i' ≡ i = omega (arith, ltb-false i' i x, ltb-false i i' y) in
         held_now (f p j l (rw (← here) s) m)))
 
-    pub walk_passes : Settled entries now i → Walk entries n t now stack depth (get_or older i 0)
+    pub walk_passes : Settled entries now i → Walk entries n t now waiting (get_or older i 0)
     walk_passes f =
         let below : i < n = seal_below r i reached.kind in
         record {

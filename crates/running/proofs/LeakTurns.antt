@@ -1,12 +1,11 @@
--- One turn of the loop of `follow` in src/leaks.rt: a key is taken from the stack, a seal is passed, or a key is learnt. Each
+-- One turn of the loop of `follow` in src/leaks.rt: a key that waits is taken, a seal is passed, or a key is learnt. Each
 -- leaves less to do. Rests on LeakFollow.antt and the laws of a walk (LeakPop, LeakPass, LeakLearn).
 use Prim.Native.Nat.{ℕ, suc, ◌+◌, ◌-◌, ◌≤◌, ◌<◌}
 use mathlib.Core.Path.{◌≡◌, refl, sym, ◌∙◌, ap, subst}
 use mathlib.Core.Bool.{Bool, true, false, not, ◌&&◌, true≢false}
-use mathlib.Core.List.{List}
-use native.Mathlib.Numerals.{add-one}
+use mathlib.Core.List.{List, [], ◌∷◌, ◌++◌}
 use native.Mathlib.Omega.{arith}
-use lib.ListN.{length, get_or, set, length-set}
+use lib.ListN.{length, get_or, length-append}
 use borrow.Author.Tests.{not-true, not-false}
 use Rattle.rules.specs.State.{most_terms}
 use Rattle.shapes.specs.declared.Entry.{Entry}
@@ -23,7 +22,7 @@ use Rattle.running.proofs.LeakCount.{unheld, unheld_set}
 use Rattle.running.proofs.LeakMark.{marked, marked_here}
 use Rattle.running.proofs.LeakSeals.{SealUnder, under, seal_below, older_link}
 use Rattle.running.proofs.LeakWalk.{Walk}
-use Rattle.running.proofs.LeakPop.{source_inside, walk_pops}
+use Rattle.running.proofs.LeakPop.{source_inside, taken, walk_pops}
 use Rattle.running.proofs.LeakPass.{Settled, reached, walk_passes}
 use Rattle.running.proofs.LeakLearn.{has_room, walk_learns}
 use Rattle.running.proofs.LeakFollow.{Following, left, link_inside, with_entry, HeldEntry}
@@ -50,41 +49,40 @@ module _
     {first : Table}
     {t : ℕ}
     {now : Table}
-    {stack : List ℕ}
-    {depth link : ℕ}
-    (i : Following newest older first t now stack depth link)
+    {waiting : List ℕ}
+    {link : ℕ}
+    (i : Following newest older first t now waiting link)
   where
-    -- the same table and stack, further on in the walk
-    further : {depth' link' : ℕ} → Walk first.entries first.terms t now.entries stack depth' link' →
-        Following newest older first t now stack depth' link'
-    further w =
-        record { ready = i.ready; same_terms = i.same_terms; same_keys = i.same_keys; long = i.long; walk = w }
+    -- the same table, further on in the walk
+    further : {waiting' : List ℕ} {link' : ℕ} → Walk first.entries first.terms t now.entries waiting' link' →
+        Following newest older first t now waiting' link'
+    further w = record { ready = i.ready; same_terms = i.same_terms; same_keys = i.same_keys; walk = w }
 
-    -- the last chain is walked, and the stack is not empty
-    module _ (done : link ≡ 0) (some : depth ≡ 0 → ⊥) where
-      at_pop : Walk first.entries first.terms t now.entries stack (suc (depth - 1)) 0
-      at_pop =
-          let more : depth ≡ suc (depth - 1) = omega arith in
-          subst (λ (d : ℕ). Walk first.entries first.terms t now.entries stack d 0) more (rw done at i.walk)
+    -- the last chain is walked, and a key waits
+    module _ (done : link ≡ 0) (rest : List ℕ) (c : ℕ) (last : waiting ≡ rest ++ c ∷ []) where
+      at_pop : Walk first.entries first.terms t now.entries (rest ++ c ∷ []) 0
+      at_pop = rw (done, last) at i.walk
 
-      -- the key on top of the stack has its place in the table
-      pub pop_inside : get_or stack (depth - 1) 0 < most_terms
-      pop_inside = source_inside i.ready (at_pop.sources (depth - 1) (omega arith))
+      -- the key has its place in the table
+      pub pop_inside : c < most_terms
+      pop_inside = source_inside i.ready (taken rest c i.ready at_pop)
 
-      pub follow_pops : Following newest older first t now stack (depth - 1) (get_or newest (get_or stack (depth - 1) 0) 0)
-      follow_pops = further (walk_pops i.ready at_pop)
+      pub follow_pops : Following newest older first t now rest (get_or newest c 0)
+      follow_pops = further (walk_pops rest c i.ready at_pop)
 
-      -- its whole chain counts for less than the key did on the stack
-      pub pop_less : left now (depth - 1) (get_or newest (get_or stack (depth - 1) 0) 0) < left now depth link
+      -- its whole chain counts for less than the key did while it waited
+      pub pop_less : left now rest (get_or newest c 0) < left now waiting link
       unfolding left
-      pop_less = omega (arith, link_inside follow_pops)
+      pop_less =
+          let one_more : length waiting ≡ length rest + 1 = ap length last ∙ length-append rest (c ∷ []) in
+          omega (arith, link_inside follow_pops, one_more)
 
     -- the link leads to a seal
     module _ (some : link ≡ 0 → ⊥) where
-      at_seal : Walk first.entries first.terms t now.entries stack depth (suc (link - 1))
+      at_seal : Walk first.entries first.terms t now.entries waiting (suc (link - 1))
       at_seal =
           let more : link ≡ suc (link - 1) = omega arith in
-          subst (λ (x : ℕ). Walk first.entries first.terms t now.entries stack depth x) more i.walk
+          subst (λ (x : ℕ). Walk first.entries first.terms t now.entries waiting x) more i.walk
 
       seal_here : SealUnder first.entries at_seal.key (link - 1)
       seal_here = reached i.ready at_seal
@@ -118,10 +116,10 @@ module _
 
         -- its payload is no key, or is held already
         module _ (h : leaking (get_or now.entries p.0 blank_entry) ≡ false) where
-          pub follow_passes : Following newest older first t now stack depth (get_or older (link - 1) 0)
+          pub follow_passes : Following newest older first t now waiting (get_or older (link - 1) 0)
           follow_passes = further (walk_passes i.ready at_seal (passed h))
 
-          pub pass_less : left now depth (get_or older (link - 1) 0) < left now depth link
+          pub pass_less : left now waiting (get_or older (link - 1) 0) < left now waiting link
           unfolding left
           pass_less = omega (arith, older_less)
 
@@ -158,12 +156,11 @@ module _
             inside : p.0 < length now.entries
             inside = omega (arith, payload_inside, i.walk.kept.same_length, i.ready.whole)
 
-            pub learn_room : depth < most_terms
-            learn_room = has_room at_seal p.0 inside key_here not_held led i.long
+            pub learn_room : length waiting < most_terms
+            learn_room = has_room at_seal p.0 inside key_here not_held led
 
-            learnt : Walk first.entries first.terms t (marked now.entries p.0) (set stack depth k.0) (suc depth)
-                (suc (link - 1))
-            learnt = walk_learns at_seal p.0 inside key_here not_held led i.long
+            learnt : Walk first.entries first.terms t (marked now.entries p.0) (waiting ++ k.0 ∷ []) (suc (link - 1))
+            learnt = walk_learns at_seal p.0 inside key_here not_held led
 
             learnt_settles : Settled first.entries (marked now.entries p.0) (link - 1)
             learnt_settles q j l s m =
@@ -173,18 +170,16 @@ module _
             one_less : unheld now.entries ≡ suc (unheld (marked now.entries p.0))
             one_less = unheld_set now.entries p.0 _ inside not_held refl
 
-            pub follow_learns : Following newest older first t (with_entry now p.0 e) (set stack depth k.0) (depth + 1)
-                (get_or older (link - 1) 0)
+            pub follow_learns : Following newest older first t (with_entry now p.0 e) (waiting ++ k.0 ∷ []) (get_or older (link - 1) 0)
             follow_learns =
-                rw (held, add-one)
+                rw held
                 (record {
                   ready = i.ready;
                   same_terms = i.same_terms;
                   same_keys = i.same_keys;
-                  long = length-set stack depth _ ∙ i.long;
                   walk = walk_passes i.ready learnt learnt_settles;
                 })
 
-            pub learn_less : left (with_entry now p.0 e) (depth + 1) (get_or older (link - 1) 0) < left now depth link
+            pub learn_less : left (with_entry now p.0 e) (waiting ++ k.0 ∷ []) (get_or older (link - 1) 0) < left now waiting link
             unfolding left
-            learn_less = rw held (omega (arith, older_less, one_less))
+            learn_less = rw held (omega (arith, older_less, one_less, length-append waiting (k.0 ∷ [])))

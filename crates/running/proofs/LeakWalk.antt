@@ -1,12 +1,13 @@
--- Where a walk through a leak stands: what is held so far, the keys that wait on the stack, and the key whose seals are opened now.
+-- Where a walk through a leak stands: what is held so far, the keys that wait, and the key whose seals are opened now.
 -- What this comes to once nothing is left. Rests on LeakSeals.antt and LeakCount.antt.
-use Prim.Native.Nat.{ℕ, ◌+◌, ◌≤◌, ◌<◌}
+use Prim.Native.Nat.{ℕ, zero, suc, ◌+◌, ◌≤◌, ◌<◌}
 use mathlib.Core.Path.{◌≡◌, sym, ◌∙◌}
 use mathlib.Core.Bool.{true, true≢false}
-use mathlib.Core.List.{List}
+use mathlib.Core.List.{List, [], ◌∷◌}
 use mathlib.Core.Logic.{◌⊎◌}
 use native.Mathlib.Omega.{arith}
-use lib.ListN.{length, get_or}
+use lib.ListN.{length}
+use Rattle.std.specs.List.{Contains}
 use Rattle.rules.specs.State.{most_terms}
 use Rattle.shapes.specs.declared.Entry.{Entry}
 use Rattle.shapes.specs.declared.KeyNo.{KeyNo}
@@ -33,17 +34,22 @@ pub record Kept (entries : List Entry) (t : ℕ) (now : List Entry) : Type 0 whe
   pub still_held : (i : ℕ) → held_at entries i ≡ true → held_at now i ≡ true
   pub no_other : (i : ℕ) → held_at now i ≡ true → (held_at entries i ≡ true) ⊎ Leak entries t i
 
--- what becomes of p, sealed by number i under the key with number j: it is held, or that key waits on the stack, or it is the
--- key c whose seals below m are still ahead
-pub data Due (now : List Entry) (stack : List ℕ) (depth c m j i p : ℕ) : Type 0 where
-  held_now : held_at now p ≡ true → Due now stack depth c m j i p
-  waiting : (d : ℕ) → d < depth → get_or stack d 0 ≡ j → Due now stack depth c m j i p
-  ahead : j ≡ c → i < m → Due now stack depth c m j i p
+-- what stands in a list of one number is that number
+pub only_one : {x y : ℕ} → Contains (x ∷ []) y → x ≡ y
+only_one (zero, h, e) = e
+only_one (suc k, h, e) = absurd (omega (arith, h))
 
-pub record Walk (entries : List Entry) (n t : ℕ) (now : List Entry) (stack : List ℕ) (depth link : ℕ) : Type 0 where
+-- what becomes of p, sealed by number i under the key with number j: it is held, or that key waits, or it is the key c whose seals
+-- below m are still ahead
+pub data Due (now : List Entry) (waiting : List ℕ) (c m j i p : ℕ) : Type 0 where
+  held_now : held_at now p ≡ true → Due now waiting c m j i p
+  waits : Contains waiting j → Due now waiting c m j i p
+  ahead : j ≡ c → i < m → Due now waiting c m j i p
+
+pub record Walk (entries : List Entry) (n t : ℕ) (now : List Entry) (waiting : List ℕ) (link : ℕ) : Type 0 where
   pub kept : Kept entries t now
-  pub room : depth + unheld now ≤ most_terms
-  pub sources : (d : ℕ) → d < depth → Source entries t (get_or stack d 0)
+  pub room : length waiting + unheld now ≤ most_terms
+  pub sources : (c : ℕ) → Contains waiting c → Source entries t c
   pub key : ℕ
   pub source : Source entries t key
   pub bound : ℕ
@@ -51,7 +57,7 @@ pub record Walk (entries : List Entry) (n t : ℕ) (now : List Entry) (stack : L
   pub link_is : link ≡ last (under entries key) bound
   pub due :
       (q p i : ℕ) (j l : KeyNo) → held_at now q ≡ true → kind_at entries q ≡ Key j →
-      kind_at entries i ≡ Seal j (record { 0 = p }) → kind_at entries p ≡ Key l → Due now stack depth key bound j.0 i p
+      kind_at entries i ≡ Seal j (record { 0 = p }) → kind_at entries p ≡ Key l → Due now waiting key bound j.0 i p
 
 -- where the link is 0 no seal under the key is ahead
 pub none_ahead : (entries : List Entry) (c m i : ℕ) {j : KeyNo} {p : TermNo} → 0 ≡ last (under entries c) m →
@@ -60,13 +66,13 @@ none_ahead entries c m i e s same l =
     let hit : under entries c i ≡ true = rw (← same) (seal_under entries i s) in
     true≢false (sym hit ∙ last_above (under entries c) m i (omega arith) l)
 
-module _ {entries : List Entry} {n t : ℕ} {now : List Entry} {stack : List ℕ} (w : Walk entries n t now stack 0 0) where
+module _ {entries : List Entry} {n t : ℕ} {now : List Entry} (w : Walk entries n t now [] 0) where
   -- at the end what a held key opens is held
   opened_at_end : (p i : ℕ) (j : KeyNo) → kind_at entries i ≡ Seal j (record { 0 = p }) →
-      Due now stack 0 w.key w.bound j.0 i p →
+      Due now [] w.key w.bound j.0 i p →
       held_at now p ≡ true
   opened_at_end p i j s (held_now h) = h
-  opened_at_end p i j s (waiting d l e) = absurd (omega arith)
+  opened_at_end p i j s (waits c) = absurd (omega (arith, c.1))
   opened_at_end p i j s (ahead same l) = absurd (none_ahead entries w.key w.bound i w.link_is s same l)
 
   -- so everything that the leak leads to is

@@ -1,13 +1,14 @@
 // Following a leak: a key that becomes known opens every seal under it, whatever the order in which they were made, and so on for
-// each key found there. Each key is handled once, from a stack of key numbers.
+// each key found there. Each key is handled once: it waits, and is taken.
 ghost use Rattle.std.specs.Prelude.{◌≡◌, true, not, ◌&&◌};
 ghost use Rattle.token.specs.Shows.{entry as entry_with};
 ghost use Rattle.shapes.specs.Entries.{is_key_entry, is_held, is_own_entry, key_of};
 ghost use Rattle.running.specs.Leaks.{Followable, kind_at};
 ghost use Rattle.running.specs.Applied.{TableFollowed};
 
-use shapes::entries::{key_of, payload_no};
-use shapes::{Entry, Marks, Term, TermNo};
+use arrayvec::ArrayVec;
+use shapes::entries::{is_key, key_of, payload_no};
+use shapes::{Entry, Marks, TermNo};
 use token::{Links, Table};
 
 // Marks everything held that the leak of term t leads to.
@@ -18,29 +19,25 @@ pub fn follow(table: &mut Table, links: &Links, t: TermNo)
     let at = t.0 as usize;
     let leak = table.entries[at];
     table.entries[at] = known(leak);
-    let mut stack = [0u16; 1024];
-    stack[0] = key_of(leak).0;
-    let mut depth: usize = 1;
+    let mut waiting = ArrayVec::<u16, 1024>::new();
+    waiting.push(key_of(leak).0);
     let mut link: u16 = 0;
     loop {
         if link == 0 {
-            if depth == 0 {
+            let Some(key) = waiting.pop() else {
                 return;
-            }
-            depth -= 1;
-            link = links.newest[stack[depth] as usize];
+            };
+            link = links.newest[key as usize];
             continue;
         }
         let i = (link - 1) as usize;
         link = links.older[i];
         let q = payload_no(table.entries[i]).0 as usize;
         let inner = table.entries[q];
-        if !leaks(inner) {
-            continue;
+        if leaks(inner) {
+            table.entries[q] = known(inner);
+            waiting.push(key_of(inner).0);
         }
-        table.entries[q] = known(inner);
-        stack[depth] = key_of(inner).0;
-        depth += 1;
     }
 }
 
@@ -48,17 +45,19 @@ pub fn follow(table: &mut Table, links: &Links, t: TermNo)
 fn leaks(entry: Entry) -> bool
     ensures { result ≡ (is_key_entry entry && not (is_held entry)) }
 {
-    matches!(entry.term, Term::Key(_)) && !entry.marks.held
+    is_key(entry) && !entry.marks.held
 }
 
 // The entry, held.
 fn known(entry: Entry) -> Entry
     ensures { result ≡ entry_with entry.term true (is_own_entry entry) }
 {
-    let term = entry.term;
     let marks = Marks {
         held: true,
         own: entry.marks.own,
     };
-    Entry { term, marks }
+    Entry {
+        term: entry.term,
+        marks,
+    }
 }

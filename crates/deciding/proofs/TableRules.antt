@@ -1,75 +1,59 @@
--- The rules of the code's constant tables: flags needed, by the one law on tables; flag bytes granted, row by row. Rests on that law
--- (shapes Tables).
-use mathlib.Core.Path.{◌≡◌, refl, sym}
-use mathlib.Core.Bool.{◌||◌, or-false, or_self}
-use mathlib.Core.List.{List, [], ◌∷◌}
-use Prim.Native.Nat.{ℕ, zero, suc, ◌+◌, ◌*◌, ◌/◌, ◌%◌, ◌<◌}
+-- The rules of the code's constant tables, said of the tables themselves: flags needed, by row; flag bytes granted, row by row; and that
+-- a flag is one bit of a flag byte. Assumes nothing.
+use mathlib.Core.Path.{◌≡◌}
+use mathlib.Core.Bool.{not}
+use mathlib.Core.List.{List, []}
+use Prim.Native.Nat.{ℕ, ◌+◌, ◌/◌, ◌%◌, ◌^◌, ◌<◌}
 use native.Mathlib.Omega.{arith}
-use lib.Dec.{eqb, leb}
+use lib.Bits.{bit_and}
+use lib.Dec.{eqb}
 use lib.ListN.{get_or}
-use borrow.Author.Tests.{le-leb}
+use Rattle.std.proofs.lemmas.Bool.Decides.{nat_tests}
+use Rattle.std.proofs.lemmas.Nat.Bits.{and_pow, bit_at-lt}
 use Rattle.terms.specs.Lists.{some_of, is_in}
-use Rattle.rules.specs.Flags.{value}
-use Rattle.rules.specs.Templates.{plain, stp+, Making, by_generate, by_unwrap, templates, grants}
-use Rattle.rules.specs.Refusals.{no_keys_encrypted}
+use Rattle.rules.specs.Flags.{value, has}
+use Rattle.rules.specs.Templates.{Making, by_generate, by_unwrap, templates, grants}
 use Rattle.sheets.specs.Reading.{read_policy}
-use Rattle.shapes.proofs.Tables.{followed}
-use Rattle.deciding.specs.Tables.{making_of, needed_by}
+use Rattle.deciding.specs.declared.tables.Flag.{Flag}
+use Rattle.deciding.specs.declared.tables.Flag.TheVariants.{Wrap, Unwrap, Encrypt, Decrypt, Extractable, TrustedOnly, Trusted}
+use Rattle.deciding.specs.declared.tables.TheConstants.{NEEDED, GRANTED}
+use Rattle.deciding.specs.Tables.{flag_of, needed_by}
 use Rattle.deciding.specs.Decisions.{granted_by}
 
--- the flag values needed, by row: W, U, E, D
-abbrev pub needed : List ℕ
-needed = 1 ∷ 2 ∷ 4 ∷ 8 ∷ []
+-- each flag in the table is the one that the command of its row needs
+pub needed_is : (row : ℕ) → row < 4 → flag_of (get_or NEEDED row Wrap) ≡ needed_by row
+needed_is row h = grind arith
 
--- each is the value of the flag that the command of its row needs, and none is 0
-pub needed_is : (row : ℕ) → row < 4 → get_or needed row 0 ≡ value (needed_by row)
-unfolding value
-needed_is = followed (λ row. value (needed_by row)) needed refl
+-- the flag bytes in the table: the row of a policy, and in it by GENERATE, then by UNWRAP
+abbrev column : Making → ℕ
+column by_generate = 0
+column by_unwrap = 1
 
-pub needed_positive : (row : ℕ) → 0 < value (needed_by row)
-unfolding value
-needed_positive zero = omega arith
-needed_positive (suc zero) = omega arith
-needed_positive (suc (suc zero)) = omega arith
-needed_positive (suc (suc (suc n))) = omega arith
+abbrev pub granted_bytes : (row : ℕ) → Making → List ℕ
+granted_bytes row making = (get_or (get_or GRANTED row []) (column making) (record { now = [] })).now
 
--- the flag bytes granted, four a row
-abbrev pub granted_rows : List ℕ
-granted_rows = 12 ∷ 28 ∷ 3 ∷ 19 ∷ 22 ∷ 22 ∷ 22 ∷ 22 ∷ 67 ∷ 51 ∷ 28 ∷ 28 ∷ 54 ∷ 54 ∷ 54 ∷ 54 ∷ []
-
--- a byte is one of a row's four exactly when the template of that policy and making grants it
-pub row_grants : (row flags : ℕ) → row < 4
-    → (eqb flags (get_or granted_rows (row * 4) 0)
-    || (eqb flags (get_or granted_rows (row * 4 + 1) 0)
-    || (eqb flags (get_or granted_rows (row * 4 + 2) 0) || eqb flags (get_or granted_rows (row * 4 + 3) 0))))
-    ≡ granted_by (1 + row / 2) (making_of (row % 2)) flags
+-- a byte is one of these exactly when the template of that policy and making grants it
+pub row_grants : (row : ℕ) (making : Making) (flags : ℕ) → row < 2 →
+    is_in flags (granted_bytes row making) ≡ granted_by (1 + row) making flags
 unfolding is_in some_of grants templates read_policy
-row_grants zero flags h = simp or-false
-row_grants (suc zero) flags h = simp (or-false, or_self)
-row_grants (suc (suc zero)) flags h = simp (or-false, or_self)
-row_grants (suc (suc (suc zero))) flags h = simp (or-false, or_self)
-row_grants (suc (suc (suc (suc row)))) flags h = absurd (omega arith)
+row_grants row making flags h = grind arith
 
--- under plain every byte up to 127 is granted, however the handle is made
-pub plain_grants : (making : Making) (flags : ℕ) → grants (templates plain making) flags ≡ leb flags 127
-unfolding grants templates
-plain_grants by_generate flags = refl
-plain_grants by_unwrap flags = refl
+-- one name for what a policy grants, to compute with
+unfoldable pub grants_opened : Unit {0}
+unfolding is_in some_of grants templates read_policy
+grants_opened = tt
 
--- a policy number of 2 or more is STP+, and a making other than 0 is by UNWRAP
-pub policy_from_2 : (policy : ℕ) → (policy ≡ 0 → ⊥) → (policy ≡ 1 → ⊥) → read_policy policy ≡ stp+
-unfolding read_policy
-policy_from_2 zero f g = absurd (f refl)
-policy_from_2 (suc zero) f g = absurd (g refl)
-policy_from_2 (suc (suc n)) f g = refl
+-- a number's digit at a power of two is 1 exactly when the two have a bit in common
+pow_tested : (n k : ℕ) → eqb (n / 2 ^ k % 2) 1 ≡ not (eqb (bit_and n (2 ^ k)) 0)
+pow_tested n k = grind (arith, nat_tests, and_pow n k, bit_at-lt n k)
 
-pub making_from_1 : (making : ℕ) → (making ≡ 0 → ⊥) → making_of making ≡ by_unwrap
-making_from_1 zero f = absurd (f refl)
-making_from_1 (suc n) f = refl
-
--- STP+ alone encrypts no keys
-pub bars_keys : (policy : ℕ) → no_keys_encrypted (read_policy policy) ≡ leb 2 policy
-unfolding no_keys_encrypted read_policy
-bars_keys zero = refl
-bars_keys (suc zero) = refl
-bars_keys (suc (suc n)) = sym (le-leb 2 (suc (suc n)) (omega arith))
+-- so a flag is in a byte exactly when the byte has a bit in common with its value
+pub bit_tested : (flag : Flag) (byte : ℕ) → has (flag_of flag) byte ≡ not (eqb (bit_and byte (value (flag_of flag))) 0)
+unfolding value has
+bit_tested Wrap byte = pow_tested byte 0
+bit_tested Unwrap byte = pow_tested byte 1
+bit_tested Encrypt byte = pow_tested byte 2
+bit_tested Decrypt byte = pow_tested byte 3
+bit_tested Extractable byte = pow_tested byte 4
+bit_tested TrustedOnly byte = pow_tested byte 5
+bit_tested Trusted byte = pow_tested byte 6

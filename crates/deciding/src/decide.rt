@@ -1,25 +1,27 @@
 // What each command comes to, decided on the small values that it sees: why it is refused, or its value and what changes. One function
-// a row of document 01's table of commands, its refusals asked in the document's order.
-#![tactic(auto, using(std::proofs::lemmas::Bool::Decides::nat_tests), unfolding(rules::specs::Refusals::first, crate::specs::Decisions::decided))]
+// a row of document 01's table of commands, its refusals asked in the document's order: so what several rows ask stands in each, in full.
+#![tactic(auto, using(crate::proofs::Asking::tests), unfolding(crate::proofs::Asking::asking_opened))]
 
 ghost use Rattle.std.specs.Prelude.{◌≡◌, ◌&&◌, [], ◌∷◌, ◌<◌, leb};
 ghost use Rattle.rules.specs.Refusals.{◌if◌, first};
 ghost use Rattle.rules.specs.State.{most_terms};
 ghost use Rattle.shapes.specs.Entries.{is_sealed_under};
+ghost use Rattle.deciding.specs.Tables.{policy_number};
 ghost use Rattle.deciding.specs.Decisions.{comes_to, decision};
 ghost use Rattle.deciding.specs.Decisions.{is_new, seal_number, seal_change, learning};
 ghost use Rattle.deciding.specs.Decisions.{decided_generate, decided_wrap, decided_unwrap, decided_encrypt, decided_decrypt};
 ghost use Rattle.deciding.specs.Decisions.{decided_corrupt, decided_destroy, decided_seal, decided};
 
-use crate::tables::{bars_wrap, granted, lacks};
+use crate::tables::{Making, Use, bars_wrap, granted, lacks};
 use crate::{Change, Done, Refusal, View};
 use shapes::entries::{is_key, key_of, payload_no};
+use shapes::policy::Policy;
 use shapes::{Command, Entry, HandleNo, KeyNo, Slot, Term, TermNo};
 
-// So many terms there can be.
+// As many terms as there can be.
 const MOST_TERMS: u16 = 1024;
 
-// The value of a flag byte that is in no flag byte: 128.
+// The value that no flag byte may hold; from here on every byte holds it.
 const TOP_BIT: u8 = 128;
 
 fn sealed_under(k: KeyNo, entry: Entry) -> bool
@@ -45,143 +47,128 @@ fn made(equal: Option<TermNo>, terms: u16, change: Change) -> Result<Done, Refus
         (seal_number equal terms)
         (seal_change equal change) }
 {
-    if let Some(t) = equal {
-        return Ok(Done {
+    match equal {
+        Some(t) => Ok(Done {
             value: t.0,
             change: Change::Nothing,
-        });
+        }),
+        None => entered(terms, terms, change),
     }
-    entered(terms, terms, change)
 }
 
+// What is learned where this term is given.
 fn learn(number: TermNo, entry: Entry) -> Change
     ensures { result ≡ learning number entry }
 {
     if is_key(entry) && !entry.marks.held {
-        return Change::Know(number);
+        Change::Know(number)
+    } else {
+        Change::Nothing
     }
-    Change::Nothing
 }
 
-fn generate(policy: u8, flags: u8, free: Option<HandleNo>, terms: u16) -> Result<Done, Refusal>
-    ensures { comes_to result ≡ decided_generate policy flags free terms }
+fn generate(policy: Policy, flags: u8, view: View) -> Result<Done, Refusal>
+    ensures { comes_to result ≡ decided_generate (policy_number policy) flags view.free view.terms }
 {
     if TOP_BIT <= flags {
         return Err(Refusal::HoldsTopBit);
     }
-    if !granted(policy, 0, flags) {
+    if !granted(policy, Making::Generate, flags) {
         return Err(Refusal::NotGranted);
     }
-    let Some(h) = free else {
+    let Some(h) = view.free else {
         return Err(Refusal::NoHandleLeft);
     };
-    entered(terms, h.0 as u16, Change::NewKey(h, flags))
+    entered(view.terms, h.0 as u16, Change::NewKey(h, flags))
 }
 
-fn wrap(
-    a: Option<Slot>,
-    b: Option<Slot>,
-    outer: Entry,
-    inner: Entry,
-    equal: Option<TermNo>,
-    terms: u16,
-) -> Result<Done, Refusal>
-    ensures { comes_to result ≡ decided_wrap a b outer inner equal terms }
+fn wrap(view: View) -> Result<Done, Refusal>
+    ensures { comes_to result ≡ decided_wrap view.a view.b view.outer view.inner view.equal view.terms }
 {
-    let Some(over) = a else {
-        return Err(Refusal::NotLive);
-    };
-    let Some(under) = b else {
+    let (Some(over), Some(under)) = (view.a, view.b) else {
         return Err(Refusal::NotLive);
     };
     if bars_wrap(over.flags, under.flags) {
         return Err(Refusal::FlagMissing);
     }
-    let leaks = outer.marks.held && !inner.marks.held;
-    made(equal, terms, Change::NewSeal(over.key, under.term, leaks))
+    let leaks = view.outer.marks.held && !view.inner.marks.held;
+    made(
+        view.equal,
+        view.terms,
+        Change::NewSeal(over.key, under.term, leaks),
+    )
 }
 
-fn unwrap(
-    policy: u8,
-    h: Option<Slot>,
-    t: Option<Entry>,
-    flags: u8,
-    payload: Entry,
-    free: Option<HandleNo>,
-) -> Result<Done, Refusal>
-    ensures { comes_to result ≡ decided_unwrap policy h t flags payload free }
+fn unwrap(policy: Policy, flags: u8, view: View) -> Result<Done, Refusal>
+    ensures { comes_to result ≡ decided_unwrap (policy_number policy) view.a view.t flags view.payload view.free }
 {
     if TOP_BIT <= flags {
         return Err(Refusal::HoldsTopBit);
     }
-    let Some(slot) = h else {
+    let Some(slot) = view.a else {
         return Err(Refusal::NotLive);
     };
-    let Some(entry) = t else {
+    let Some(entry) = view.t else {
         return Err(Refusal::NoTerm);
     };
-    if !granted(policy, 1, flags) {
+    if !granted(policy, Making::Unwrap, flags) {
         return Err(Refusal::NotGranted);
     }
-    if lacks(1, slot.flags) {
+    if lacks(Use::Unwrap, slot.flags) {
         return Err(Refusal::FlagMissing);
     }
     if !entry.marks.held {
         return Err(Refusal::NotHeld);
     }
-    if !(sealed_under(slot.key, entry) && is_key(payload)) {
+    if !(sealed_under(slot.key, entry) && is_key(view.payload)) {
         return Err(Refusal::WrongKind);
     }
-    let Some(number) = free else {
+    let Some(h) = view.free else {
         return Err(Refusal::NoHandleLeft);
     };
-    let key = key_of(payload);
+    let key = key_of(view.payload);
     let term = payload_no(entry);
     Ok(Done {
-        value: number.0 as u16,
-        change: Change::Bind(number, Slot { key, term, flags }),
+        value: h.0 as u16,
+        change: Change::Bind(h, Slot { key, term, flags }),
     })
 }
 
-#[tactic(auto, using(std::proofs::lemmas::Bool::Decides::nat_tests, crate::proofs::TableRules::bars_keys), unfolding(rules::specs::Refusals::first))]
-fn encrypt(
-    policy: u8,
-    h: Option<Slot>,
-    t: Option<Entry>,
-    number: TermNo,
-    equal: Option<TermNo>,
-    terms: u16,
-) -> Result<Done, Refusal>
-    ensures { comes_to result ≡ decided_encrypt policy h t number equal terms }
+fn encrypt(policy: Policy, number: TermNo, view: View) -> Result<Done, Refusal>
+    ensures { comes_to result ≡ decided_encrypt (policy_number policy) view.a view.t number view.equal view.terms }
 {
-    let Some(slot) = h else {
+    let Some(slot) = view.a else {
         return Err(Refusal::NotLive);
     };
-    let Some(entry) = t else {
+    let Some(entry) = view.t else {
         return Err(Refusal::NoTerm);
     };
-    if lacks(2, slot.flags) {
+    if lacks(Use::Encrypt, slot.flags) {
         return Err(Refusal::FlagMissing);
     }
     if !entry.marks.held {
         return Err(Refusal::NotHeld);
     }
-    if 2 <= policy && is_key(entry) {
+    if policy == Policy::StpPlus && is_key(entry) {
         return Err(Refusal::KeyEncrypted);
     }
-    made(equal, terms, Change::NewSeal(slot.key, number, false))
+    made(
+        view.equal,
+        view.terms,
+        Change::NewSeal(slot.key, number, false),
+    )
 }
 
-fn decrypt(h: Option<Slot>, t: Option<Entry>, payload: Entry) -> Result<Done, Refusal>
-    ensures { comes_to result ≡ decided_decrypt h t payload }
+fn decrypt(view: View) -> Result<Done, Refusal>
+    ensures { comes_to result ≡ decided_decrypt view.a view.t view.payload }
 {
-    let Some(slot) = h else {
+    let Some(slot) = view.a else {
         return Err(Refusal::NotLive);
     };
-    let Some(entry) = t else {
+    let Some(entry) = view.t else {
         return Err(Refusal::NoTerm);
     };
-    if lacks(3, slot.flags) {
+    if lacks(Use::Decrypt, slot.flags) {
         return Err(Refusal::FlagMissing);
     }
     if !entry.marks.held {
@@ -193,87 +180,68 @@ fn decrypt(h: Option<Slot>, t: Option<Entry>, payload: Entry) -> Result<Done, Re
     let number = payload_no(entry);
     Ok(Done {
         value: number.0,
-        change: learn(number, payload),
+        change: learn(number, view.payload),
     })
 }
 
-fn corrupt(h: Option<Slot>, outer: Entry) -> Result<Done, Refusal>
-    ensures { comes_to result ≡ decided_corrupt h outer }
+fn corrupt(view: View) -> Result<Done, Refusal>
+    ensures { comes_to result ≡ decided_corrupt view.a view.outer }
 {
-    let Some(slot) = h else {
+    let Some(slot) = view.a else {
         return Err(Refusal::NotLive);
     };
-    let number = slot.term;
     Ok(Done {
-        value: number.0,
-        change: learn(number, outer),
+        value: slot.term.0,
+        change: learn(slot.term, view.outer),
     })
 }
 
-fn destroy(h: Option<Slot>, number: HandleNo) -> Result<Done, Refusal>
-    ensures { comes_to result ≡ decided_destroy h number }
+fn destroy(h: HandleNo, view: View) -> Result<Done, Refusal>
+    ensures { comes_to result ≡ decided_destroy view.a h }
 {
-    if h.is_none() {
+    let Some(_) = view.a else {
         return Err(Refusal::NotLive);
-    }
+    };
     Ok(Done {
-        value: number.0 as u16,
-        change: Change::Release(number),
+        value: h.0 as u16,
+        change: Change::Release(h),
     })
 }
 
-fn seal(
-    k: Option<Entry>,
-    t: Option<Entry>,
-    number: TermNo,
-    equal: Option<TermNo>,
-    terms: u16,
-) -> Result<Done, Refusal>
-    ensures { comes_to result ≡ decided_seal k t number equal terms }
+fn seal(number: TermNo, view: View) -> Result<Done, Refusal>
+    ensures { comes_to result ≡ decided_seal view.t view.u number view.equal view.terms }
 {
-    let Some(key) = k else {
+    let (Some(key), Some(entry)) = (view.t, view.u) else {
         return Err(Refusal::NoTerm);
     };
-    let Some(entry) = t else {
-        return Err(Refusal::NoTerm);
-    };
-    if !key.marks.held {
-        return Err(Refusal::NotHeld);
-    }
-    if !entry.marks.held {
+    if !(key.marks.held && entry.marks.held) {
         return Err(Refusal::NotHeld);
     }
     if !is_key(key) {
         return Err(Refusal::WrongKind);
     }
-    made(equal, terms, Change::NewSeal(key_of(key), number, false))
+    made(
+        view.equal,
+        view.terms,
+        Change::NewSeal(key_of(key), number, false),
+    )
 }
 
+// The policy comes by its number, since every number is answered: each from 2 on as STP+.
 pub fn decide(policy: u8, command: Command, view: View) -> Result<Done, Refusal>
     ensures { comes_to result ≡ decided policy command view }
 {
-    let View {
-        a,
-        b,
-        t,
-        u,
-        payload,
-        outer,
-        inner,
-        equal,
-        free,
-        terms,
-    } = view;
+    let policy = Policy::from(policy);
     match command {
-        Command::Generate(flags) => generate(policy, flags, free, terms),
-        Command::Wrap(_, _) => wrap(a, b, outer, inner, equal, terms),
-        Command::Unwrap(_, _, flags) => unwrap(policy, a, t, flags, payload, free),
-        Command::Encrypt(_, n) => encrypt(policy, a, t, n, equal, terms),
-        Command::Decrypt(_, _) => decrypt(a, t, payload),
-        Command::Corrupt(_) => corrupt(a, outer),
-        Command::Destroy(h) => destroy(a, h),
-        Command::OwnKey => entered(terms, terms, Change::OwnKey),
-        Command::OwnData => entered(terms, terms, Change::OwnData),
-        Command::Seal(_, n) => seal(t, u, n, equal, terms),
+        Command::Generate(flags) => generate(policy, flags, view),
+        Command::Wrap(_, _) => wrap(view),
+        Command::Unwrap(_, _, flags) => unwrap(policy, flags, view),
+        Command::Encrypt(_, t) => encrypt(policy, t, view),
+        Command::Decrypt(_, _) => decrypt(view),
+        Command::Corrupt(_) => corrupt(view),
+        Command::Destroy(h) => destroy(h, view),
+        Command::OwnKey => entered(view.terms, view.terms, Change::OwnKey),
+        Command::OwnData => entered(view.terms, view.terms, Change::OwnData),
+        Command::Seal(_, t) => seal(t, view),
     }
 }

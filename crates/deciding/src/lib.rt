@@ -24,7 +24,7 @@ pub struct View {
     pub terms: u16,
 }
 
-// What a done command changes in the token.
+// What a done command changes in the token. A flag byte stays a number: document 01's table of granted flag bytes is one of numbers.
 #[derive(Clone, Copy)]
 pub enum Change {
     Nothing,
@@ -37,7 +37,8 @@ pub enum Change {
     Know(TermNo),
 }
 
-// What a done command answers besides 0.
+// What a done command answers besides 0. The value is the number of a handle or of a term, by the command: document 01 gives one value
+// to all, so it is of none of the three counts.
 #[derive(Clone, Copy)]
 pub struct Done {
     pub value: u16,

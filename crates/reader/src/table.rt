@@ -33,13 +33,7 @@ impl Row {
     pub fn is_faulty(self, end: usize, size: usize) -> bool
         ensures { result ≡ faulty self end size }
     {
-        if !known_number(self.number) {
-            return true;
-        }
-        if self.offset as usize != end {
-            return true;
-        }
-        size < self.end()
+        !known_number(self.number) || self.offset as usize != end || size < self.end()
     }
 }
 

@@ -10,7 +10,6 @@ use Rattle.sheets.specs.Calls.{over}
 use Rattle.sheets.proofs.Calls.{over_length}
 use Rattle.sheets.proofs.Good.{policy_written, contents_length}
 use Rattle.writer.specs.Writer.{handed_commands, asked_sheet}
-use Rattle.writer.specs.Parts.{Ready}
 use Rattle.writer.proofs.Over.{over_lent}
 use Rattle.writer.proofs.Handed.{handed_count, asked_length}
 
@@ -31,11 +30,11 @@ unfolding two
 front_long policy n handed =
     omega (arith, contents_length (bodies_begin n) (handed_commands handed n), handed_count handed n)
 
-module _ {policy n : ℕ} {handed before : List ℕ} (ready : Ready policy n handed before) where
+module _ {policy : ℕ} (n : ℕ) (handed before : List ℕ) (low : policy ≤ 2) (room : length (asked_sheet policy n handed) ≤ length before) where
   -- there is room for all of it
   pub all_room : 3 + 3 * n + length (bodies (handed_commands handed n)) ≤ length before
   unfolding bodies_begin
-  all_room = omega (arith, ready.fits, asked_length policy n handed)
+  all_room = omega (arith, room, asked_length policy n handed)
 
   module _ {out : List ℕ} (written : out ≡ over (header policy n) before) where
     -- once the header is written
@@ -66,4 +65,4 @@ module _ {policy n : ℕ} {handed before : List ℕ} (ready : Ready policy n han
       all_written {back'} e =
           over_lent (header policy n ++ table n handed) (bodies (handed_commands handed n)) before (3 + 3 * n) with_table back'
           (front_long policy n handed) table_written e
-          ∙ ap (λ (l : List ℕ). over l before) (sym (three_parts policy n handed ready.low))
+          ∙ ap (λ (l : List ℕ). over l before) (sym (three_parts policy n handed low))

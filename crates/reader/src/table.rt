@@ -1,4 +1,5 @@
-// The header and the rows of the table of contents of a sheet, read at their places, and the tests of document 01's "Place of a fault".
+// The header and the rows of the table of contents of a sheet, read at their places, and the tests of document 01's "Place of a
+// fault".
 ghost use Rattle.std.specs.Prelude.{◌≡◌, suc, ◌≤◌, ◌<◌, ◌+◌, length};
 ghost use Rattle.sheets.specs.Bytes.{two_at};
 ghost use Rattle.sheets.specs.Sheets.{bodies_begin};
@@ -70,7 +71,7 @@ pub fn header(sheet: &[u8]) -> Result<Header, Malformed>
 }
 
 // The row of the entry with i entries before it.
-#[tactic(auto, unfolding(sheets::specs::Sheets::bodies_begin, sheets::specs::Bytes::byte_at, sheets::specs::Faults::entry_number, sheets::specs::Faults::entry_offset))]
+#[tactic(auto, unfolding(sheets::specs::Sheets::bodies_begin))]
 pub fn row_at(sheet: &[u8], i: u16) -> Row
     requires { bodies_begin (suc i) ≤ length sheet.now }
     ensures { result ≡ row_of sheet.now i }

@@ -15,9 +15,12 @@ module _ (handed : List ℕ) (i : ℕ) where
   pub ok_found : (r : Option Handed) (error : WriteError) (command : Handed) → Ok command ≡ ok_or r error → CommandAt handed i r
       → CommandAt handed i (Some command)
   ok_found None error command e at = cc
-  ok_found (Some c) error command e at = let same : c ≡ command = cc in subst (λ (d : Handed). CommandAt handed i (Some d)) same at
+  ok_found (Some c) error command e at =
+      let same : c ≡ command = cc in
+      subst (λ (d : Handed). CommandAt handed i (Some d)) same at
 
-  pub err_found : (r : Option Handed) (error : WriteError) (e : WriteError) → ◌≡◌ {A = Result Handed WriteError} (Err e) (ok_or r error)
+  pub err_found : (r : Option Handed) (error e : WriteError)
+      → ◌≡◌ {A = Result Handed WriteError} (Err e) (ok_or r error)
       → CommandAt handed i r → CommandAt handed i None × (e ≡ error)
   err_found None error e q at = (at, cc)
   err_found (Some c) error e q at = cc
@@ -27,5 +30,6 @@ module _ (handed : List ℕ) (i : ℕ) where
   found None held at = absurd (true≢false (sym (at 0 0) ∙ passes handed i 0 0 held))
   found (Some c) held at = refl
 
-  pub some_found : {r : Option Handed} (command : Handed) → r ≡ Some command → CommandAt handed i r → CommandAt handed i (Some command)
+  pub some_found : {r : Option Handed} (command : Handed) → r ≡ Some command → CommandAt handed i r
+      → CommandAt handed i (Some command)
   some_found command e at = subst (λ (d : Option Handed). CommandAt handed i d) e at

@@ -44,7 +44,8 @@ module _ (handed : List ℕ) (i : ℕ) (policy n : ℕ) where
   unfolding unholdable
   unknown e = simp (e, or-true)
 
-  pub other_length : (handed_length handed i ≡ body_length (handed_number handed i) → ⊥) → unholdable policy n handed (suc i) ≡ true
+  pub other_length : (handed_length handed i ≡ body_length (handed_number handed i) → ⊥)
+      → unholdable policy n handed (suc i) ≡ true
   unfolding unholdable
   other_length f = rw (ne_eqb _ _ f, or-true)
 

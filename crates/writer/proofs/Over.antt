@@ -47,13 +47,15 @@ module _ (w e before : List ℕ) (at : ℕ) (out back : List ℕ) (so_long : len
   back_is : back ≡ e ++ drop (at + length e) before
   unfolding over
   back_is =
-      more ∙ ap (over e) (lent_whole out at ∙ rest_is w before at out so_long written) ∙ ap (λ (l : List ℕ). e ++ l) (drop-drop (length e) at before)
+      more ∙ ap (over e) (lent_whole out at ∙ rest_is w before at out so_long written)
+      ∙ ap (λ (l : List ℕ). e ++ l) (drop-drop (length e) at before)
 
   pub over_lent : take at out ++ (back ++ drop (length out - at) (drop at out)) ≡ over (w ++ e) before
   unfolding over
   over_lent =
       let long : at + length e ≡ length (w ++ e) = omega (arith, length-append w e) in
-      rw (front_is w before at out so_long written, none_behind out at, append-nil, back_is, long) (sym (append_assoc w e (drop (length (w ++ e)) before)))
+      rw (front_is w before at out so_long written, none_behind out at, append-nil, back_is, long)
+      (sym (append_assoc w e (drop (length (w ++ e)) before)))
 
 -- three bytes: one, and a number's two behind it
 one : (a : ℕ) (out : List ℕ) → 0 < length out → set out 0 a ≡ over (a ∷ []) out
@@ -61,7 +63,8 @@ unfolding over
 one a [] h = absurd (omega arith)
 one a (x ∷ out) h = refl
 
-pub over_three : (a number : ℕ) (out back : List ℕ) → 3 ≤ length out → number < 65536 → back ≡ number / 256 % 256 ∷ number % 256 ∷ []
+pub over_three : (a number : ℕ) (out back : List ℕ) → 3 ≤ length out → number < 65536
+    → back ≡ number / 256 % 256 ∷ number % 256 ∷ []
     → put_mid 1 2 (set out 0 a) back ≡ over (a ∷ two number) out
 unfolding two
 over_three a number out back h few e =

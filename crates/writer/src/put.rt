@@ -40,7 +40,8 @@ impl<'a> Asked<'a> {
     // The table of contents: for each command its number and where its body begins.
     fn put_contents(self, out: &mut [u8])
         requires { entry_length * self.count ≤ length out.old }
-        ensures { out.new ≡ over (contents (bodies_begin self.entry.count) (handed_commands self.entry.handed.now self.entry.count)) out.old }
+        ensures { out.new
+            ≡ over (contents (bodies_begin self.entry.count) (handed_commands self.entry.handed.now self.entry.count)) out.old }
     {
         let mut offset: u16 = 3 + 3 * self.count;
         for i in 0..self.count {

@@ -1,5 +1,5 @@
-// A command as it is handed over: a record of six bytes, the command number, the length of the body, and four bytes of which so many
-// are the body.
+// A command as it is handed over: a record of six bytes, the command number, the length of the body, and four bytes of which
+// so many are the body.
 ghost use Rattle.writer.specs.Parts.{CommandAt};
 
 use shapes::parse::{body_length, known_number};

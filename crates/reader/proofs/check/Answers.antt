@@ -1,4 +1,5 @@
--- `check` meets its contract: with i entries behind there was no fault, and the bodies so far end at `end` (Checking). Assumes nothing.
+-- `check` meets its contract: with i entries behind there was no fault, and the bodies so far end at `end`
+-- (Checking). Assumes nothing.
 use mathlib.Core.Path.{ap, sym, ◌∙◌}
 use Rattle.std.specs.Prelude.{Err}
 use Rattle.std.proofs.lemmas.Result.{err_from_is_err_and}

@@ -1,5 +1,5 @@
--- `look_through` meets its contract. The loop's invariant: up to the command that is asked next, every one can be held and its body's
--- length is counted (Looking).
+-- `look_through` meets its contract. The loop's invariant:
+-- up to the command that is asked next, every one can be held and its body's length is counted (Looking).
 use Rattle.writer.proofs.Looking.{Looking}
 use Rattle.writer.proofs.look_through.Given as goal
 

@@ -11,7 +11,9 @@ pub returns-then-sheet-bodies_begin : goal.returns-then-sheet-bodies_begin
 returns-then-sheet-bodies_begin c = entry_outside _ _ (omega (arith, c.bodies_begin.ensures, begin_next c.args.i))
 
 pub returns-then-sheet-end : goal.returns-then-sheet-end
-returns-then-sheet-end c = body_outside _ _ (omega (arith, c.end.ensures, ap (λ (r : Row). r.offset + body_length r.number) c.row_at-row.ensures))
+returns-then-sheet-end c =
+    let ends = ap (λ (r : Row). r.offset + body_length r.number) c.row_at-row.ensures in
+    body_outside _ _ (omega (arith, c.end.ensures, ends))
 
 pub returns : goal.returns
 returns c = (

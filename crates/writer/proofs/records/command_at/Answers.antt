@@ -1,5 +1,5 @@
--- `command_at` meets its contract: the record is asked for first, then its number, and then the length of its body, as the definition
--- asks (Handed). Assumes nothing.
+-- `command_at` meets its contract: the record is asked for first, then its number, and then the
+-- length of its body, as the definition asks (Handed). Assumes nothing.
 use mathlib.Core.Path.{refl, sym, ◌∙◌}
 use native.Mathlib.Omega.{arith}
 use Prim.Native.Nat.{◌*◌}
@@ -24,7 +24,11 @@ slice_bounds-result-end c = omega (arith, c.body_length.ensures, body_most (byte
 pub returns : goal.returns
 unfolding byte_at handed_length handed_number
 returns c = (
-  record { whole = omega (arith, c.if-handed-at.false); known = sym c.if-not-known_number.ensures; its_length = c.if-long-body_length.false ∙ c.body_length.ensures },
+  record {
+    whole = omega (arith, c.if-handed-at.false);
+    known = sym c.if-not-known_number.ensures;
+    its_length = c.if-long-body_length.false ∙ c.body_length.ensures;
+  },
   refl,
   body_lent _ _,
 )

@@ -1,5 +1,5 @@
--- `Asked::put_contents` meets its contract. The loop's invariant: the entries of the commands before the next one stand over the front
--- of the buffer (Listing of Putting).
+-- `Asked::put_contents` meets its contract. The loop's invariant:
+-- the entries of the commands before the next one stand over the front of the buffer (Listing of Putting).
 use Rattle.writer.proofs.Putting.{Listing}
 use Rattle.writer.proofs.put.Asked.put_contents.Given as goal
 

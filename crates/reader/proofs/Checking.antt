@@ -12,15 +12,16 @@ use mathlib.Core.Option.{none}
 use lib.ListN.{length}
 use borrow.Author.Tests.{lt-ltb}
 use Rattle.std.specs.Prelude.{Ok, Err}
-use Rattle.sheets.specs.Bytes.{byte_at, two_at}
 use Rattle.sheets.specs.Sheets.{bodies_begin}
-use Rattle.sheets.specs.Faults.{body_length, count, entry_number, entry_offset, bodies_end, header_fault, entry_fault}
+use Rattle.sheets.specs.Faults.{body_length, count, bodies_end, header_fault, entry_fault}
 use Rattle.sheets.specs.Faults.{bytes_follow, fault_at, first_fault}
 use Rattle.sheets.proofs.Places.{FirstFault, first_fault_some}
 use Rattle.sheets.proofs.Faultless.{HeaderFaultless, EntryFaultless, header_exactly, entry_exactly, fault_at_entry, fault_at_end}
 use Rattle.sheets.proofs.Faultless.{none_faultless}
+use Rattle.reader.specs.declared.Header.{Header}
+use Rattle.reader.specs.declared.table.Row.{Row}
 use Rattle.reader.specs.Reader.{checked_as, checked}
-use Rattle.reader.proofs.Tests.{faulty}
+use Rattle.reader.specs.Parts.{header_of, row_of, faulty}
 
 -- with i entries behind there was no fault, and the bodies so far end at `end`
 pub record Walked (s : List ℕ) (i end : ℕ) : Type 0 where
@@ -54,48 +55,51 @@ next_named s i end w e =
     rw (add-one i)
     (named s (suc i) (record { in_range = omega (arith, w.in_range); is_fault = e; none_before = none_behind s i end w }))
 
-module _ (s : List ℕ) (n : ℕ) (counted : n ≡ two_at s 1) where
+module _ (s : List ℕ) (header : Header) (is_header : header ≡ header_of s) where
+  counted : header.count ≡ count s
+  counted = ap (λ (h : Header). h.count) is_header
+
   -- the walk begins
-  pub begins : (end : ℕ) → end ≡ bodies_begin n → header_fault s ≡ false → Walked s 0 end
-  unfolding bodies_end count
+  pub begins : (end : ℕ) → end ≡ bodies_begin header.count → header_fault s ≡ false → Walked s 0 end
+  unfolding bodies_end
   begins end at e =
-      let header = (header_exactly s).0 e in
+      let faultless = (header_exactly s).0 e in
       let here : end ≡ bodies_end s 0 = at ∙ ap bodies_begin counted in
       record {
-        header = header;
+        header = faultless;
         in_range = omega arith;
         at_end = here;
-        inside = omega (arith, here, header.table_inside);
+        inside = omega (arith, here, faultless.table_inside);
         entries = λ j h. absurd (not-suc-le-zero h);
       }
 
-  module _ (i end : ℕ) (w : Walked s i end) (h : i < n) where
+  module _ (i end : ℕ) (w : Walked s i end) (h : i < header.count) where
     ahead : i < count s
-    unfolding count
-    ahead = omega arith
+    ahead = omega (arith, counted)
 
     -- the next entry lies in the table
     pub entry_inside : bodies_begin (suc i) ≤ length s
     unfolding bodies_begin
     entry_inside = omega (arith, ahead, w.header.table_inside)
 
-    -- .. and its number and offset are tested
-    module _ (number offset : ℕ) (is_number : number ≡ entry_number s i) (is_offset : offset ≡ entry_offset s i) where
-      tested : faulty number offset end (length s) ≡ entry_fault s i
+    -- .. and its row is tested
+    module _ (row : Row) (read : row ≡ row_of s i) where
+      tested : faulty row end (length s) ≡ entry_fault s i
       unfolding entry_fault bodies_end
-      tested = rw (is_number, is_offset, w.at_end)
+      tested = rw (read, w.at_end)
 
       -- an entry with a fault is named
-      pub entry_named : faulty number offset end (length s) ≡ true → Err (record { place = i + 1 }) ≡ checked s
+      pub entry_named : faulty row end (length s) ≡ true → Err (record { place = i + 1 }) ≡ checked s
       entry_named e = next_named s i end w (fault_at_entry s i ahead ∙ sym tested ∙ e)
 
       -- one without is passed
-      pub goes_on : faulty number offset end (length s) ≡ false → (size : ℕ) → size ≡ body_length number
-          → Walked s (i + 1) (end + size)
+      pub goes_on : faulty row end (length s) ≡ false → (next : ℕ) → next ≡ row.offset + body_length row.number
+          → Walked s (i + 1) next
       unfolding bodies_end
-      goes_on e size sized =
+      goes_on e next ends =
           let good = (entry_exactly s i).0 (sym tested ∙ e) in
-          let moved : end + size ≡ bodies_end s (suc i) = omega (arith, w.at_end, sized ∙ ap body_length is_number) in
+          let here = ap (λ (r : Row). r.offset + body_length r.number) read in
+          let moved : next ≡ bodies_end s (suc i) = omega (arith, ends, here, good.in_place) in
           rw (add-one i)
           (record {
             header = w.header;
@@ -108,29 +112,28 @@ module _ (s : List ℕ) (n : ℕ) (counted : n ≡ two_at s 1) where
                 (eq-or-lt_of_le (le_of_suc-le-suc l));
           })
 
-  module _ (i end : ℕ) (w : Walked s i end) (h : n ≤ i) where
+  module _ (i end : ℕ) (w : Walked s i end) (h : header.count ≤ i) where
     all_behind : i ≡ count s
-    unfolding count
-    all_behind = omega (arith, w.in_range)
+    all_behind = omega (arith, w.in_range, counted)
 
     at_last : end ≡ bodies_end s (count s)
     at_last = w.at_end ∙ ap (bodies_end s) all_behind
 
     -- bytes that follow the last body are named
-    pub end_named : end < length s → Err (record { place = n + 1 }) ≡ checked s
-    unfolding bytes_follow count
+    pub end_named : end < length s → Err (record { place = header.count + 1 }) ≡ checked s
+    unfolding bytes_follow
     end_named l =
         let e : bytes_follow s ≡ true = lt-ltb (bodies_end s (count s)) (length s) (omega (arith, at_last)) in
-        let same : n ≡ i = omega arith in
+        let same : header.count ≡ i = omega (arith, counted, all_behind) in
         rw same (next_named s i end w (fault_at_end s i (omega (arith, all_behind)) ∙ e))
 
     -- .. and where none do the sheet is good
-    pub end_good : length s ≤ end → Ok (record { policy = byte_at s 0; count = n }) ≡ checked s
-    unfolding checked checked_as count
+    pub end_good : length s ≤ end → Ok header ≡ checked s
+    unfolding checked checked_as
     end_good l =
         let none_at_all : first_fault s ≡ none = (none_faultless s).1 (record {
           header = w.header;
           entries = λ j b. w.entries j (omega (arith, all_behind));
           nothing_follows = omega (arith, at_last);
         }) in
-        rw (none_at_all, counted)
+        rw (none_at_all, is_header)

@@ -56,7 +56,8 @@ checked_good s policy n =
     (λ e. good_as s policy n (first_fault s) refl e, λ g. rw (g.no_fault, g.its_policy, g.its_count))
 
 -- .. and malformed at a place exactly where that place is named
-malformed_as : (policy n place : ℕ) (fault : Option ℕ) → checked_as fault policy n ≡ Err (record { place = place }) → fault ≡ some place
+malformed_as : (policy n place : ℕ) (fault : Option ℕ) → checked_as fault policy n ≡ Err (record { place = place })
+    → fault ≡ some place
 unfolding checked_as
 malformed_as policy n place none e = let z : ◌≡◌ {A = ℕ} 0 1 = cc in absurd (omega arith)
 malformed_as policy n place (some p) e =
@@ -68,7 +69,8 @@ unfolding checked checked_as
 checked_malformed s place = (λ e. malformed_as _ _ place (first_fault s) e, λ f. rw f)
 
 -- a policy answered is at most 2, a count at most 4,096, a place at most 4,097
-pub good_most : (s : List ℕ) {policy n : ℕ} → checked s ≡ Ok (record { policy = policy; count = n }) → (policy ≤ 2) × (n ≤ most_commands)
+pub good_most : (s : List ℕ) {policy n : ℕ} → checked s ≡ Ok (record { policy = policy; count = n })
+    → (policy ≤ 2) × (n ≤ most_commands)
 good_most s {policy} {n} e =
     let g = (checked_good s policy n).0 e in
     let header = ((none_faultless s).0 g.no_fault).header in

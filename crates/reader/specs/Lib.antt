@@ -1,2 +1,3 @@
--- What reading a sheet gives.
+-- What reading a sheet gives; last, what the reader's own parts answer.
 pub mod Reader
+pub mod Parts

@@ -1,7 +1,8 @@
 -- What reading a sheet gives, for every byte string: it is good, with its policy and count, or malformed, with the place of its
 -- first fault (document 01, "Place of a fault"); the body of an entry is that part of the sheet; an entry is its number and command.
 -- Assumes nothing.
-use Rattle.std.specs.Prelude.{ℕ, suc, ◌+◌, Bool, ◌&&◌, cond, Option, Some, None, Result, Ok, Err, List, [], leb, length, take, drop}
+use Rattle.std.specs.Prelude.{ℕ, suc, ◌+◌, Bool, ◌&&◌, cond, Option, Some, None, Result, Ok, Err}
+use Rattle.std.specs.Prelude.{List, [], leb, length, take, drop}
 use Rattle.std.proofs.Math.Option.{Option as Maybe, none, some}
 use Rattle.sheets.specs.Bytes.{byte_at}
 use Rattle.sheets.specs.Sheets.{bodies_begin}

@@ -12,22 +12,25 @@ pub struct Reader<'a> {
     pub entry: u16,
 }
 
-// Hands on the entry's body as that part of the sheet itself.
-pub fn reader_body<'a>(r: Reader<'a>) -> &'a [u8]
-    ensures { result.now ≡ body_at r.entry.sheet.now r.entry.entry }
-{
-    body(r.sheet, r.entry)
-}
+impl<'a> Reader<'a> {
+    // Hands on the entry's body as that part of the sheet itself.
+    pub fn body(self) -> &'a [u8]
+        ensures { result.now ≡ body_at self.entry.sheet.now self.entry.entry }
+    {
+        body(self.sheet, self.entry)
+    }
 
-pub fn reader_entry<'a>(r: Reader<'a>) -> Option<SheetEntry>
-    ensures { result ≡ entry_at r.entry.sheet.now r.entry.entry }
-{
-    entry(r.sheet, r.entry)
+    // The entry, read.
+    pub fn entry(self) -> Option<SheetEntry>
+        ensures { result ≡ entry_at self.entry.sheet.now self.entry.entry }
+    {
+        entry(self.sheet, self.entry)
+    }
 }
 
 // From a slice and a number to a reader and back: whoever calls this needs to know of no reader.
 pub fn read_entry(sheet: &[u8], i: u16) -> Option<SheetEntry>
     ensures { result ≡ entry_at sheet.now i }
 {
-    reader_entry(Reader { sheet, entry: i })
+    Reader { sheet, entry: i }.entry()
 }

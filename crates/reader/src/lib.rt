@@ -5,11 +5,9 @@
 ghost use Rattle.std.specs.Prelude.{◌≡◌};
 ghost use Rattle.reader.specs.Reader.{checked, body_at, entry_at};
 
-use crate::table::{
-    bodies_begin, entry_fault, has_body, header_fault, number_at, offset_at, two_at,
-};
+use crate::table::{bodies_begin, header, row_at, row_inside};
 use shapes::SheetEntry;
-use shapes::parse::{body_length, parse};
+use shapes::parse::parse;
 
 pub mod handing;
 mod table;
@@ -31,50 +29,41 @@ pub struct Malformed {
 pub fn check(sheet: &[u8]) -> Result<Header, Malformed>
     ensures { result ≡ checked sheet.now }
 {
-    if header_fault(sheet) {
-        return Err(Malformed { place: 0 });
-    }
-    let count = two_at(sheet, 1);
-    let mut end = bodies_begin(count);
-    let mut i: u16 = 0;
-    while i < count {
-        let number = number_at(sheet, i);
-        let offset = offset_at(sheet, i);
-        if entry_fault(number, offset, end, sheet.len()) {
+    let header = header(sheet)?;
+    let mut end = bodies_begin(header.count);
+    for i in 0..header.count {
+        let row = row_at(sheet, i);
+        if row.is_faulty(end, sheet.len()) {
             return Err(Malformed { place: i + 1 });
         }
-        end += body_length(number);
-        i += 1;
+        end = row.end();
     }
     if end < sheet.len() {
-        return Err(Malformed { place: count + 1 });
+        return Err(Malformed {
+            place: header.count + 1,
+        });
     }
-    Ok(Header {
-        policy: sheet[0],
-        count,
-    })
+    Ok(header)
 }
 
 // The body of the entry with i entries before it: that part of the sheet, or the empty part where it is not inside.
 pub fn body<'a>(sheet: &'a [u8], i: u16) -> &'a [u8]
     ensures { result.now ≡ body_at sheet.now i }
 {
-    if !has_body(sheet, i) {
+    let Some(row) = row_inside(sheet, i) else {
         return &sheet[0..0];
-    }
-    let a = offset_at(sheet, i);
-    let e = a + body_length(number_at(sheet, i));
-    &sheet[a..e]
+    };
+    &sheet[row.offset as usize..row.end()]
 }
 
 // The entry with i entries before it.
 pub fn entry(sheet: &[u8], i: u16) -> Option<SheetEntry>
     ensures { result ≡ entry_at sheet.now i }
 {
-    if !has_body(sheet, i) {
-        return None;
-    }
-    let number = number_at(sheet, i);
-    let command = parse(number, body(sheet, i))?;
-    Some(SheetEntry { number, command })
+    let row = row_inside(sheet, i)?;
+    let command = parse(row.number, body(sheet, i))?;
+    Some(SheetEntry {
+        number: row.number,
+        command,
+    })
 }

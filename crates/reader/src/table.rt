@@ -1,87 +1,99 @@
-// The header and the table of contents of a sheet, read at their places, and the tests of document 01's "Place of a fault".
-ghost use Rattle.std.specs.Prelude.{◌≡◌, not, ◌||◌, suc, ◌<◌, ◌≤◌, ◌+◌, ltb, eqb, length};
+// The header and the rows of the table of contents of a sheet, read at their places, and the tests of document 01's "Place of a
+// fault".
+ghost use Rattle.std.specs.Prelude.{◌≡◌, suc, ◌≤◌, ◌<◌, ◌+◌, length};
 ghost use Rattle.sheets.specs.Bytes.{two_at};
 ghost use Rattle.sheets.specs.Sheets.{bodies_begin};
-ghost use Rattle.sheets.specs.Faults.{known_number, body_length, entry_number, entry_offset, header_fault};
-ghost use Rattle.reader.specs.Reader.{has_body};
+ghost use Rattle.sheets.specs.Faults.{body_length};
+ghost use Rattle.reader.specs.Parts.{HeaderOf, row_of, faulty, RowInside};
 
+use crate::{Header, Malformed};
 use shapes::parse::{body_length, known_number};
 
+// The greatest policy number, of STP+, and the most commands of a sheet.
+const MOST_POLICY: u8 = 2;
+
+const MOST_COMMANDS: u16 = 4096;
+
+// A row of the table: an entry's command number, and where its body begins.
+#[derive(Clone, Copy)]
+pub struct Row {
+    pub number: u8,
+    pub offset: u16,
+}
+
+impl Row {
+    // Where the body ends.
+    #[tactic(auto, using(sheets::proofs::Sizes::body_most))]
+    pub fn end(self) -> usize
+        ensures { result ≡ self.offset + body_length self.number }
+    {
+        self.offset as usize + body_length(self.number)
+    }
+
+    // Has an entry of this row a fault, where the bodies before it end at `end`, in a sheet of this length?
+    pub fn is_faulty(self, end: usize, size: usize) -> bool
+        ensures { result ≡ faulty self end size }
+    {
+        !known_number(self.number) || self.offset as usize != end || size < self.end()
+    }
+}
+
 // The two-byte number at a place, big-endian.
-pub fn two_at(bytes: &[u8], at: usize) -> u16
+#[tactic(auto, unfolding(sheets::specs::Bytes::byte_at, sheets::specs::Bytes::two_at))]
+fn two_at(bytes: &[u8], at: usize) -> u16
     requires { at + 1 < length bytes.now }
     ensures { result ≡ two_at bytes.now at }
 {
-    let high = bytes[at] as u16;
-    let low = bytes[at + 1] as u16;
-    high * 256 + low
+    u16::from_be_bytes([bytes[at], bytes[at + 1]])
 }
 
 // Where the bodies begin, behind the header and so many entries.
+#[tactic(auto, unfolding(sheets::specs::Sheets::bodies_begin))]
 pub fn bodies_begin(count: u16) -> usize
     ensures { result ≡ bodies_begin count }
 {
     3 + 3 * (count as usize)
 }
 
-// Is there a fault at place 0?
-pub fn header_fault(sheet: &[u8]) -> bool
-    ensures { result ≡ header_fault sheet.now }
+// The header, where there is no fault at place 0.
+pub fn header(sheet: &[u8]) -> Result<Header, Malformed>
+    ensures { HeaderOf sheet.now result }
 {
     if sheet.len() < 3 {
-        return true;
+        return Err(Malformed { place: 0 });
     }
-    if 2 < sheet[0] {
-        return true;
-    }
+    let policy = sheet[0];
     let count = two_at(sheet, 1);
-    if 4096 < count {
-        return true;
+    if MOST_POLICY < policy || MOST_COMMANDS < count || sheet.len() < bodies_begin(count) {
+        return Err(Malformed { place: 0 });
     }
-    sheet.len() < bodies_begin(count)
+    Ok(Header { policy, count })
 }
 
-// The command number of the entry with i entries before it.
-pub fn number_at(sheet: &[u8], i: u16) -> u8
+// The row of the entry with i entries before it.
+#[tactic(auto, unfolding(sheets::specs::Sheets::bodies_begin))]
+pub fn row_at(sheet: &[u8], i: u16) -> Row
     requires { bodies_begin (suc i) ≤ length sheet.now }
-    ensures { result ≡ entry_number sheet.now i }
+    ensures { result ≡ row_of sheet.now i }
 {
     let at = bodies_begin(i);
-    sheet[at]
-}
-
-// The offset of its body.
-pub fn offset_at(sheet: &[u8], i: u16) -> usize
-    requires { bodies_begin (suc i) ≤ length sheet.now }
-    ensures { result ≡ entry_offset sheet.now i }
-{
-    two_at(sheet, bodies_begin(i) + 1) as usize
-}
-
-// Has an entry a fault, of this number and offset, where the bodies before it end at `end`, inside a sheet of this length?
-pub fn entry_fault(number: u8, offset: usize, end: usize, size: usize) -> bool
-    requires { end ≤ size }
-    ensures { result ≡ (not (known_number number) || not (eqb offset end) || ltb size (end + body_length number)) }
-{
-    if !known_number(number) {
-        return true;
+    Row {
+        number: sheet[at],
+        offset: two_at(sheet, at + 1),
     }
-    if offset != end {
-        return true;
-    }
-    size - end < body_length(number)
 }
 
-// Is the entry with i entries before it inside, and the body that it names?
-pub fn has_body(sheet: &[u8], i: u16) -> bool
-    ensures { result ≡ has_body sheet.now i }
+// The same, where the entry is inside, and the body that it names.
+#[tactic(auto, using(crate::proofs::Tests::begin_next), unfolding(sheets::specs::Sheets::bodies_begin))]
+pub fn row_inside(sheet: &[u8], i: u16) -> Option<Row>
+    ensures { RowInside sheet.now i result }
 {
     if sheet.len() < bodies_begin(i) + 3 {
-        return false;
+        return None;
     }
-    let offset = offset_at(sheet, i);
-    if sheet.len() < offset {
-        return false;
+    let row = row_at(sheet, i);
+    if sheet.len() < row.end() {
+        return None;
     }
-    body_length(number_at(sheet, i)) <= sheet.len() - offset
+    Some(row)
 }

@@ -11,7 +11,7 @@ use mathlib.Core.Option.{none}
 use lib.Dec.{eqb}
 use lib.ListN.{length, get_or, take, drop, length-append, length-drop}
 use lib.Seq.{length-take-le, take_all}
-use borrow.Author.Tests.{ltb-false, eqb-true, not-false, lt-ltb, le-ltb, eq-eqb}
+use borrow.Author.Tests.{ltb-false, eqb-true, not-false, lt-ltb, le-ltb, eq-eqb, ne_eqb}
 use Rattle.terms.proofs.Lists.{in_at, at_get_d}
 use Rattle.rules.specs.Commands.{Command, number}
 use Rattle.rules.proofs.Named.{neither}
@@ -43,6 +43,11 @@ module _ (handed : List ℕ) (i : ℕ) (policy n : ℕ) where
   pub unknown : known_number (handed_number handed i) ≡ false → unholdable policy n handed (suc i) ≡ true
   unfolding unholdable
   unknown e = simp (e, or-true)
+
+  pub other_length : (handed_length handed i ≡ body_length (handed_number handed i) → ⊥)
+      → unholdable policy n handed (suc i) ≡ true
+  unfolding unholdable
+  other_length f = rw (ne_eqb _ _ f, or-true)
 
   pub by_length : record_length * suc i ≤ length handed → known_number (handed_number handed i) ≡ true
       → unholdable policy n handed (suc i) ≡ not (eqb (handed_length handed i) (body_length (handed_number handed i)))
@@ -97,10 +102,6 @@ handed_count handed (suc n) =
     let c = read_command (handed_number handed n) (handed_body handed n) in
     omega (arith, length-append (handed_commands handed n) (c ∷ []), handed_count handed n)
 
--- a body is short
-pub body_short : (long n : ℕ) → long ≡ body_length n → long ≤ 4
-body_short long n e = omega (arith, body_most n)
-
 -- the command with i commands before it
 abbrev pub handed_command : List ℕ → ℕ → Command
 handed_command handed i = read_command (handed_number handed i) (handed_body handed i)
@@ -124,6 +125,10 @@ module _ (handed : List ℕ) (i : ℕ) (h : Held handed i) where
   pub body_long : length (handed_body handed i) ≡ handed_length handed i
   unfolding handed_body
   body_long = length-take-le _ _ (rw length-drop (omega (arith, body_inside)))
+
+  -- .. which is short
+  pub body_short : length (handed_body handed i) ≤ 4
+  body_short = omega (arith, body_long, h.its_length, body_most (handed_number handed i))
 
 module _ (handed : List ℕ) (bytes : Bytes handed) (i : ℕ) (h : Held handed i) where
   body_are_bytes : Bytes (handed_body handed i)
@@ -168,15 +173,8 @@ module _ (handed : List ℕ) (bytes : Bytes handed) (i : ℕ) (h : Held handed i
       bodies_longer before (handed_command handed i) ∙ ap (λ (l : List ℕ). bodies before ++ l) handed_bytes
 
   pub bodies_next_length : length (bodies (handed_commands handed (suc i)))
-      ≡ length (bodies (handed_commands handed i)) + body_length (handed_number handed i)
-  bodies_next_length =
-      omega (
-        arith,
-        ap length bodies_next,
-        length-append (bodies (handed_commands handed i)) (handed_body handed i),
-        body_long handed i h,
-        h.its_length,
-      )
+      ≡ length (bodies (handed_commands handed i)) + length (handed_body handed i)
+  bodies_next_length = ap length bodies_next ∙ length-append (bodies (handed_commands handed i)) (handed_body handed i)
 
 -- the first commands have no more bytes than all of them
 pub bodies_grow : (handed : List ℕ) (i n : ℕ) → i ≤ n

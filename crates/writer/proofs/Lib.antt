@@ -3,6 +3,7 @@
 pub mod Over
 pub mod Longer
 pub mod Handed
+pub mod Commands
 pub mod Looking
 pub mod Putting
 pub mod Whole

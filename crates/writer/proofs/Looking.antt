@@ -14,13 +14,12 @@ use lib.ListN.{length}
 use borrow.Author.Tests.{lt-ltb, le-ltb}
 use Rattle.sheets.specs.Bytes.{Bytes}
 use Rattle.sheets.specs.Sheets.{most_commands, bodies, bodies_begin}
-use Rattle.sheets.specs.Faults.{body_length}
 use Rattle.sheets.proofs.Places.{NoneBelow, smallest_some, smallest_none}
 use Rattle.std.specs.Prelude.{Ok, Err}
 use Rattle.writer.specs.declared.WriteError.TheVariants.{Malformed}
-use Rattle.writer.specs.Writer.{handed_number, handed_commands, unholdable, first_unholdable, asked_sheet}
+use Rattle.writer.specs.Writer.{handed_body, handed_commands, unholdable, first_unholdable, asked_sheet}
 use Rattle.writer.specs.Parts.{found_as, Held}
-use Rattle.writer.proofs.Handed.{held, bodies_next_length, bodies_few, asked_length}
+use Rattle.writer.proofs.Handed.{passes, bodies_next_length, bodies_few, asked_length}
 
 -- what is answered for each
 module _ (policy n : ℕ) (handed : List ℕ) (long : ℕ) where
@@ -75,24 +74,18 @@ module _ (policy n : ℕ) (handed : List ℕ) (i long : ℕ) (so_far : Looking p
       (record { in_range = omega arith; passes = e; none_before = so_far.none_yet })))
 
   -- the next command can be held
-  looking_held : unholdable policy n handed (suc i) ≡ false → Held handed i
-  looking_held e = held handed i policy n e
-
-  pub looking_inside : unholdable policy n handed (suc i) ≡ false → 6 * i < length handed
-  looking_inside e = omega (arith, (looking_held e).whole)
-
-  pub looking_next : Bytes handed → i < n → unholdable policy n handed (suc i) ≡ false
-      → Looking policy n handed (i + 1) (long + body_length (handed_number handed i))
-  looking_next bytes h e =
+  pub looking_next : Bytes handed → i < n → Held handed i → (body : List ℕ) → body ≡ handed_body handed i
+      → Looking policy n handed (i + 1) (long + length body)
+  looking_next bytes h held body same =
       record {
         in_range = omega arith;
         few = so_far.few;
         none_yet =
             rw add-one
             (λ (j : ℕ) (l : j < suc (suc i)).
-            ⊎_elim (λ (q : j ≡ suc i). ap (unholdable policy n handed) q ∙ e) (so_far.none_yet j)
+            ⊎_elim (λ (q : j ≡ suc i). ap (unholdable policy n handed) q ∙ passes handed i policy n held) (so_far.none_yet j)
             (eq-or-lt_of_le (le_of_suc-le-suc l)));
-        so_long = rw add-one (omega (arith, so_far.so_long, bodies_next_length handed bytes i (looking_held e)));
+        so_long = rw add-one (omega (arith, so_far.so_long, ap length same, bodies_next_length handed bytes i held));
       }
 
   -- the length stays small

@@ -1,5 +1,5 @@
 -- Bytes over the front of a buffer, one part behind the other. Rests on the definition of `over` in the crate sheets.
-use Prim.Native.Nat.{ℕ, ◌+◌, ◌-◌, ◌≤◌, ◌<◌}
+use Prim.Native.Nat.{ℕ, ◌+◌, ◌-◌, ◌/◌, ◌%◌, ◌≤◌, ◌<◌}
 use native.Mathlib.Nat.{zero-add}
 use native.Mathlib.Numerals.{add-one}
 use native.Mathlib.Omega.{arith}
@@ -7,6 +7,7 @@ use mathlib.Core.Path.{◌≡◌, refl, sym, ap, ◌∙◌}
 use mathlib.Core.List.{List, [], ◌∷◌, ◌++◌, append_assoc, append-nil}
 use lib.ListN.{length, get_or, take, drop, set, length-append, length-drop, drop_of_length-le}
 use lib.Seq.{drop-drop, take_all, take-length, take_at, drop_at, paste, paste-zero, paste-suc, length-paste}
+use borrow.Rule.Slice.PartMut.{put_mid}
 use Rattle.sheets.specs.Bytes.{two}
 use Rattle.sheets.specs.Calls.{over}
 
@@ -20,9 +21,8 @@ lent_length l at = rw lent_whole (length-drop at l)
 none_behind : (l : List ℕ) (at : ℕ) → drop (length l - at) (drop at l) ≡ []
 none_behind l at = drop_of_length-le (drop at l) {i = length l - at} (rw length-drop (omega arith))
 
--- w stands over the front of a buffer, and the part behind w was lent and came back with e over its front: now w and e stand there
-module _ (w e before : List ℕ) (at : ℕ) (out back : List ℕ) (so_long : length w ≡ at) (written : out ≡ over w before)
-    (more : back ≡ over e (take (length out - at) (drop at out))) where
+-- w stands over the front of a buffer
+module _ (w before : List ℕ) (at : ℕ) (out : List ℕ) (so_long : length w ≡ at) (written : out ≡ over w before) where
   rest_is : drop at out ≡ drop at before
   unfolding over
   rest_is = ap (drop at) written ∙ drop_at w _ at so_long ∙ ap (λ (k : ℕ). drop k before) so_long
@@ -31,25 +31,45 @@ module _ (w e before : List ℕ) (at : ℕ) (out back : List ℕ) (so_long : len
   unfolding over
   front_is = ap (take at) written ∙ take_at w _ at so_long
 
+-- .. and k bytes are put behind w
+pub over_put : (w e before : List ℕ) (at k : ℕ) (out : List ℕ) → length w ≡ at → k ≡ length e → out ≡ over w before
+    → put_mid at k out e ≡ over (w ++ e) before
+unfolding over
+over_put w e before at k out so_long so_many written =
+    let rest : drop k (drop at out) ≡ drop (at + k) before =
+    ap (drop k) (rest_is w before at out so_long written) ∙ drop-drop k at before in
+    let long : at + k ≡ length (w ++ e) = omega (arith, length-append w e) in
+    rw (front_is w before at out so_long written, rest, long) (sym (append_assoc w e (drop (length (w ++ e)) before)))
+
+-- .. or the part behind w was lent and came back with e over its front: now w and e stand there
+module _ (w e before : List ℕ) (at : ℕ) (out back : List ℕ) (so_long : length w ≡ at) (written : out ≡ over w before)
+    (more : back ≡ over e (take (length out - at) (drop at out))) where
   back_is : back ≡ e ++ drop (at + length e) before
   unfolding over
   back_is =
-      more ∙ ap (over e) (lent_whole out at ∙ rest_is) ∙ ap (λ (l : List ℕ). e ++ l) (drop-drop (length e) at before)
+      more ∙ ap (over e) (lent_whole out at ∙ rest_is w before at out so_long written)
+      ∙ ap (λ (l : List ℕ). e ++ l) (drop-drop (length e) at before)
 
   pub over_lent : take at out ++ (back ++ drop (length out - at) (drop at out)) ≡ over (w ++ e) before
   unfolding over
   over_lent =
       let long : at + length e ≡ length (w ++ e) = omega (arith, length-append w e) in
-      rw (front_is, none_behind out at, append-nil, back_is, long) (sym (append_assoc w e (drop (length (w ++ e)) before)))
+      rw (front_is w before at out so_long written, none_behind out at, append-nil, back_is, long)
+      (sym (append_assoc w e (drop (length (w ++ e)) before)))
 
--- three bytes
-pub over_three : (a number : ℕ) (out : List ℕ) → 3 ≤ length out → (b c : ℕ) → two number ≡ b ∷ c ∷ []
-    → set (set (set out 0 a) 1 b) 2 c ≡ over (a ∷ two number) out
+-- three bytes: one, and a number's two behind it
+one : (a : ℕ) (out : List ℕ) → 0 < length out → set out 0 a ≡ over (a ∷ []) out
 unfolding over
-over_three a number [] h b c e = elim h [ ]
-over_three a number (x ∷ []) h b c e = absurd (omega arith)
-over_three a number (x ∷ (y ∷ [])) h b c e = absurd (omega arith)
-over_three a number (x ∷ (y ∷ (z ∷ out))) h b c e = rw e
+one a [] h = absurd (omega arith)
+one a (x ∷ out) h = refl
+
+pub over_three : (a number : ℕ) (out back : List ℕ) → 3 ≤ length out → number < 65536
+    → back ≡ number / 256 % 256 ∷ number % 256 ∷ []
+    → put_mid 1 2 (set out 0 a) back ≡ over (a ∷ two number) out
+unfolding two
+over_three a number out back h few e =
+    let high : number / 256 % 256 ≡ number / 256 = omega arith in
+    rw (e, high) (over_put (a ∷ []) (two number) out 1 2 (set out 0 a) refl refl (one a out (omega arith)))
 
 -- bytes copied one by one
 pub copied_none : (bytes before : List ℕ) → before ≡ paste before 0 bytes 0

@@ -5,15 +5,15 @@ use native.Mathlib.Omega.{arith}
 use mathlib.Core.Path.{◌≡◌, refl, sym, ap, ◌∙◌}
 use mathlib.Core.List.{List, ◌∷◌, ◌++◌}
 use lib.ListN.{length, take, drop}
+use borrow.Rule.Slice.PartMut.{put_mid}
 use Rattle.sheets.specs.Bytes.{Bytes, two}
 use Rattle.sheets.specs.Sheets.{entry_length, contents, bodies, bodies_begin}
-use Rattle.sheets.specs.Faults.{body_length}
 use Rattle.sheets.specs.Calls.{over}
 use Rattle.sheets.proofs.Calls.{over_length}
 use Rattle.sheets.proofs.Good.{contents_length}
-use Rattle.writer.specs.Writer.{handed_number, handed_length, handed_body, handed_commands}
+use Rattle.writer.specs.Writer.{handed_number, handed_body, handed_commands}
 use Rattle.writer.specs.Parts.{AllHeld}
-use Rattle.writer.proofs.Over.{over_lent}
+use Rattle.writer.proofs.Over.{over_put, over_lent}
 use Rattle.writer.proofs.Handed.{handed_count, contents_next, bodies_next, bodies_next_length, bodies_grow, bodies_few}
 
 -- the entries of the first i commands are written, and the next body begins at `offset`
@@ -48,21 +48,22 @@ module _ (n : ℕ) (handed before : List ℕ) (i offset : ℕ) (out : List ℕ) 
   unfolding bodies_begin
   listing_small = omega (arith, so_far.its_offset, so_far.in_range, all.few, bodies_few handed i)
 
-  pub listing_next : Bytes handed → i < n → (back : List ℕ)
-      → back ≡ over (handed_number handed i ∷ two offset) (take (length out - 3 * i) (drop (3 * i) out))
-      → Listing n handed before (i + 1) (offset + body_length (handed_number handed i))
+  pub listing_next : Bytes handed → i < n → {number : ℕ} {body back : List ℕ}
+      → number ≡ handed_number handed i → body ≡ handed_body handed i
+      → back ≡ over (number ∷ two offset) (take (length out - 3 * i) (drop (3 * i) out))
+      → Listing n handed before (i + 1) (offset + length body)
       (take (3 * i) out ++ (back ++ drop (length out - 3 * i) (drop (3 * i) out)))
   unfolding entries
-  listing_next bytes h back e =
+  listing_next bytes h {number} {body} {back} numbered same e =
       let held = all.each i h in
-      let entry : ℕ → List ℕ = λ k. handed_number handed i ∷ two k in
+      let entry : ℕ → List ℕ = λ k. number ∷ two k in
       let next = contents_next handed bytes i held (bodies_begin n) in
       let lent = over_lent entries (entry offset) before (3 * i) out back entries_length so_far.written e in
       let in_place = ap (λ (k : ℕ). over (entries ++ entry k) before) so_far.its_offset in
       record {
         in_range = omega arith;
-        its_offset = rw add-one (omega (arith, so_far.its_offset, bodies_next_length handed bytes i held));
-        written = rw add-one (lent ∙ in_place ∙ ap (λ (l : List ℕ). over l before) (sym next));
+        its_offset = rw add-one (omega (arith, so_far.its_offset, ap length same, bodies_next_length handed bytes i held));
+        written = rw add-one (lent ∙ in_place ∙ ap (λ (l : List ℕ). over l before) (sym (rw (← numbered) at next)));
       }
 
   pub listing_all : n ≤ i → out ≡ over (contents (bodies_begin n) (handed_commands handed n)) before
@@ -91,31 +92,30 @@ module _ (n : ℕ) (handed before : List ℕ) (i at : ℕ) (out : List ℕ) (all
   copying_small = omega (arith, so_far.its_place, so_far.in_range, all.few, bodies_few handed i)
 
   -- the next body fits behind those that are written
-  pub copying_room : Bytes handed → i < n → at + handed_length handed i ≤ length out
-  copying_room bytes h =
+  pub copying_room : Bytes handed → i < n → {body : List ℕ} → body ≡ handed_body handed i → at + length body ≤ length out
+  copying_room bytes h same =
       let held = all.each i h in
       omega (
         arith,
         so_far.its_place,
-        held.its_length,
+        ap length same,
         bodies_next_length handed bytes i held,
         bodies_grow handed (suc i) n h,
         copying_length,
       )
 
-  pub copying_next : Bytes handed → i < n → (body back : List ℕ) → body ≡ handed_body handed i
-      → back ≡ over body (take (length out - at) (drop at out))
-      → Copying n handed before (i + 1) (at + handed_length handed i)
-      (take at out ++ (back ++ drop (length out - at) (drop at out)))
-  copying_next bytes h body back same e =
+  pub copying_next : Bytes handed → i < n → {body back : List ℕ} → body ≡ handed_body handed i → back ≡ body
+      → Copying n handed before (i + 1) (at + length body) (put_mid at (at + length body - at) out back)
+  copying_next bytes h {body} {back} same copied =
       let held = all.each i h in
       let so_many = bodies (handed_commands handed i) in
       let next = bodies_next handed bytes i held in
-      let lent = over_lent so_many body before at out back (sym so_far.its_place) so_far.written e in
+      let long : at + length body - at ≡ length body = omega arith in
+      let put = over_put so_many body before at (at + length body - at) out (sym so_far.its_place) long so_far.written in
       record {
         in_range = omega arith;
-        its_place = rw add-one (omega (arith, so_far.its_place, held.its_length, bodies_next_length handed bytes i held));
-        written = rw (add-one, next, ← same) lent;
+        its_place = rw add-one (omega (arith, so_far.its_place, ap length same, bodies_next_length handed bytes i held));
+        written = rw (add-one, next, ← same, copied) put;
       }
 
   pub copying_all : n ≤ i → out ≡ over (bodies (handed_commands handed n)) before

@@ -97,7 +97,8 @@ module _ (policy n : ℕ) (handed buffer : List ℕ) where
     behind_stays = rw (length_told, ((exactly (Ok long) after).0 e).3) (over_behind (asked_sheet policy n handed) buffer)
 
   -- the buffer's length never changes
-  pub same_length : (r : Outcome ℕ WriteError) (after : List ℕ) → Result policy n handed buffer r after → length after ≡ length buffer
+  pub same_length : (r : Outcome ℕ WriteError) (after : List ℕ) → Result policy n handed buffer r after
+      → length after ≡ length buffer
   same_length (Err (Malformed place)) after e = ap length (malformed_writes_nothing e)
   same_length (Err Short) after e = ap length (short_writes_nothing e)
   same_length (Ok long) after e =

@@ -1,15 +1,16 @@
 -- What the writer's own parts ask and answer. `write` is held to specs/Writer.antt alone, so a reader who believes that file need
 -- not believe this one. Assumes nothing.
-use Rattle.std.specs.Prelude.{ℕ, suc, ◌*◌, ◌≤◌, ◌<◌, ◌≡◌, Bool, true, Result, Ok, Err, List, length}
-use Rattle.std.proofs.Math.Option.{Option, none, some}
+use Rattle.std.specs.Prelude.{ℕ, suc, ◌*◌, ◌≤◌, ◌<◌, ◌≡◌, true, Option, MatchOption, Result, Ok, Err, List, length}
+use Rattle.std.proofs.Math.Option.{Option as Maybe, none, some}
 use Rattle.sheets.specs.Sheets.{most_commands}
 use Rattle.sheets.specs.Faults.{known_number, body_length}
+use Rattle.writer.specs.declared.records.Handed.{Handed}
 use Rattle.writer.specs.declared.WriteError.{WriteError}
 use Rattle.writer.specs.declared.WriteError.TheVariants.{Malformed}
-use Rattle.writer.specs.Writer.{record_length, handed_number, handed_length, unholdable, asked_sheet}
+use Rattle.writer.specs.Writer.{record_length, handed_number, handed_length, handed_body, unholdable}
 
 -- what is found, by the place of what no sheet can hold and the sheet's length
-unfoldable pub found_as : (fault : Option ℕ) (long : ℕ) → Result ℕ WriteError
+unfoldable pub found_as : (fault : Maybe ℕ) (long : ℕ) → Result ℕ WriteError
 found_as none long = Ok long
 found_as (some place) long = Err (Malformed place)
 
@@ -24,12 +25,9 @@ pub record AllHeld (n : ℕ) (handed : List ℕ) : Type 0 where
   pub few : n ≤ most_commands
   pub each : (i : ℕ) → i < n → Held handed i
 
--- a sheet that can be written into a buffer
-pub record Ready (policy n : ℕ) (handed buffer : List ℕ) : Type 0 where
-  pub low : policy ≤ 2
-  pub held : AllHeld n handed
-  pub fits : length (asked_sheet policy n handed) ≤ length buffer
-
--- the test of the command with i commands before it, whatever the policy and the count
-abbrev pub IsUnholdable : (handed : List ℕ) (i : ℕ) → Bool → Type 0
-IsUnholdable handed i test = (policy n : ℕ) → test ≡ unholdable policy n handed (suc i)
+-- the command with i commands before it is handed over as its number and its body, or is one that no sheet can hold, whatever the
+-- policy and the count
+abbrev pub CommandAt : (handed : List ℕ) (i : ℕ) → Option Handed → Type 0
+CommandAt handed i r =
+    MatchOption r ((policy n : ℕ) → unholdable policy n handed (suc i) ≡ true)
+    (λ command. Held handed i × (command.number ≡ handed_number handed i) × (command.body.now ≡ handed_body handed i))

@@ -1,7 +1,8 @@
 -- Document 01: "The writer answers 12 at place 0 for policy or count, at i for a command i that no sheet can hold, then 13; a refusal
 -- writes nothing." Commands are handed over as records of six bytes, one behind the other: the command number, the length of the
 -- body, and four bytes of which so many are the body. Assumes nothing.
-use Rattle.std.specs.Prelude.{ℕ, zero, suc, ◌+◌, ◌*◌, Bool, true, false, not, ◌||◌, List, [], ◌∷◌, ◌++◌, leb, ltb, eqb, Result, Ok, Err, length, take, drop}
+use Rattle.std.specs.Prelude.{ℕ, zero, suc, ◌+◌, ◌*◌, Bool, true, false, not, ◌||◌, Result, Ok, Err}
+use Rattle.std.specs.Prelude.{List, [], ◌∷◌, ◌++◌, leb, ltb, eqb, length, take, drop}
 use Rattle.std.proofs.Math.Option.{Option, none, some}
 use Rattle.rules.specs.Commands.{Command}
 use Rattle.sheets.specs.Bytes.{byte_at}

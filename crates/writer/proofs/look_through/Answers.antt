@@ -1,37 +1,36 @@
--- `writer::look_through` meets its contract: up to the command that is asked next, every one can be held and its body's length is
--- counted (Looking). Assumes nothing.
+-- `look_through` meets its contract (Looking). Assumes nothing.
 use native.Mathlib.Omega.{arith}
-use mathlib.Core.Path.{sym, ◌∙◌}
-use Rattle.sheets.specs.Bytes.{byte_at}
-use Rattle.writer.specs.Writer.{handed_number}
+use mathlib.Core.Path.{ap, ◌∙◌}
+use lib.ListN.{length}
+use Rattle.std.specs.Prelude.{Err}
+use Rattle.std.proofs.Common.{rules}
+use Rattle.std.proofs.lemmas.Result.{err_from_is_err_and}
+use Rattle.writer.proofs.Commands.{ok_found, err_found}
 use Rattle.writer.proofs.Handed.{bytes_by_place, body_short}
-use Rattle.writer.proofs.Looking.{policy_above, too_many, looking_none, looking_fault, looking_inside}
-use Rattle.writer.proofs.Looking.{looking_next, looking_small, looking_all}
+use Rattle.writer.proofs.Looking.{policy_above, too_many, looking_none, looking_fault, looking_next, looking_small, looking_all}
 use Rattle.writer.proofs.look_through.Goals as goal
 
-pub returns-then-policy-gt2 : goal.returns-then-policy-gt2
-returns-then-policy-gt2 c = policy_above _ _ _ _ c.if-policy-gt2.true
-
-pub returns-then-count-gt4096 : goal.returns-then-count-gt4096
-returns-then-count-gt4096 c = too_many _ _ _ _ c.if-count-gt4096.true
+pub returns-then-policy-gt-MOST_POLICY : goal.returns-then-policy-gt-MOST_POLICY
+returns-then-policy-gt-MOST_POLICY c = search (rules, policy_above, too_many)
 
 pub loop-i-init : goal.loop-i-init
-loop-i-init c = looking_none _ _ _ c.if-policy-gt2.false c.if-count-gt4096.false
+loop-i-init c = looking_none _ _ _ c.if-policy-gt-MOST_POLICY.false c.if-count-gt-MOST_COMMANDS.false
 
-pub returns-then-no_command : goal.returns-then-no_command
-returns-then-no_command c = looking_fault _ _ _ _ _ c.loop-i.invariant c.loop-i-test.true (sym (c.no_command.ensures _ _) ∙ c.if-no_command.true) _
-
-pub bounds-handed-at : goal.bounds-handed-at
-bounds-handed-at c = looking_inside _ _ _ _ _ c.loop-i.invariant (sym (c.no_command.ensures _ _) ∙ c.if-no_command.false)
+pub returns-in_err-command : goal.returns-in_err-command
+returns-in_err-command c =
+    let (error, answered, same) = err_from_is_err_and c.from_residual.result c.from_residual.ensures.1 in
+    let (none, named) = err_found _ _ _ _ _ c.in_err-command.ensures.value c.command_at.ensures in
+    answered ∙ ap Err (same ∙ named) ∙ looking_fault _ _ _ _ _ c.loop-i.invariant c.loop-i-test.true (none _ _) _
 
 pub overflow_add-long-in-loop-i : goal.overflow_add-long-in-loop-i
-overflow_add-long-in-loop-i c = omega (arith, looking_small _ _ _ _ _ c.loop-i.invariant, body_short _ _ c.body_length-long.ensures)
+overflow_add-long-in-loop-i c =
+    let (held, numbered, same) = ok_found _ _ _ _ _ c.in_ok-command.ensures.value c.command_at.ensures in
+    omega (arith, looking_small _ _ _ _ _ c.loop-i.invariant, body_short _ _ held, ap length same)
 
 pub loop-i-preserved : goal.loop-i-preserved
-unfolding byte_at handed_number
-loop-i-preserved c = rw c.body_length-long.ensures
-    (looking_next _ _ _ _ _ c.loop-i.invariant (bytes_by_place _ (λ i. (c.shared_slice_known-1.given i).fits)) c.loop-i-test.true
-    (sym (c.no_command.ensures _ _) ∙ c.if-no_command.false))
+loop-i-preserved c =
+    let (held, numbered, same) = ok_found _ _ _ _ _ c.in_ok-command.ensures.value c.command_at.ensures in
+    looking_next _ _ _ _ _ c.loop-i.invariant (bytes_by_place _ (λ i. (c.type_inv.handed i).fits)) c.loop-i-test.true held _ same
 
 pub returns : goal.returns
 returns c = looking_all _ _ _ _ _ c.loop-i.invariant c.loop-i-test.false

@@ -1,0 +1,35 @@
+-- What `command_at` answers, as it is asked for: by `ok_or`, or by `unwrap` where a sheet can hold the command. Rests on Handed.
+use Prim.Native.Nat.{ℕ}
+use mathlib.Core.Path.{◌≡◌, refl, sym, subst, ◌∙◌}
+use mathlib.Core.Bool.{true≢false}
+use mathlib.Core.List.{List}
+use Rattle.std.specs.Prelude.{Option, Some, None, Result, Ok, Err}
+use Rattle.std.specs.Option.{ok_or, IsSome}
+use Rattle.writer.specs.declared.WriteError.{WriteError}
+use Rattle.writer.specs.declared.records.Handed.{Handed}
+use Rattle.writer.specs.Parts.{Held, CommandAt}
+use Rattle.writer.proofs.Handed.{passes}
+
+module _ (handed : List ℕ) (i : ℕ) where
+  -- a command, or the error that was to be given
+  pub ok_found : (r : Option Handed) (error : WriteError) (command : Handed) → Ok command ≡ ok_or r error → CommandAt handed i r
+      → CommandAt handed i (Some command)
+  ok_found None error command e at = cc
+  ok_found (Some c) error command e at =
+      let same : c ≡ command = cc in
+      subst (λ (d : Handed). CommandAt handed i (Some d)) same at
+
+  pub err_found : (r : Option Handed) (error e : WriteError)
+      → ◌≡◌ {A = Result Handed WriteError} (Err e) (ok_or r error)
+      → CommandAt handed i r → CommandAt handed i None × (e ≡ error)
+  err_found None error e q at = (at, cc)
+  err_found (Some c) error e q at = cc
+
+  -- one that a sheet can hold is found
+  pub found : (r : Option Handed) → Held handed i → CommandAt handed i r → IsSome r
+  found None held at = absurd (true≢false (sym (at 0 0) ∙ passes handed i 0 0 held))
+  found (Some c) held at = refl
+
+  pub some_found : {r : Option Handed} (command : Handed) → r ≡ Some command → CommandAt handed i r
+      → CommandAt handed i (Some command)
+  some_found command e at = subst (λ (d : Option Handed). CommandAt handed i d) e at

@@ -5,7 +5,7 @@ ghost use Rattle.sheets.specs.Calls.{over};
 ghost use Rattle.handles.specs.Live.{count_in};
 ghost use Rattle.token.specs.Known.{is_marked, marked_keys, ListedInto, origin_in};
 
-use crate::{Origin, Short, Table, Token};
+use crate::{Origin, Short, Token};
 use handles::count;
 use shapes::entries::{is_key, key_of};
 use shapes::{Entry, KeyNo, Term};
@@ -21,19 +21,19 @@ pub fn is_known(entry: Entry) -> bool
 pub fn known_count(token: Token) -> u16
     ensures { result ≡ length (marked_keys token.table.entries) }
 {
-    let known = token.table.entries.iter().filter(|entry| is_known(**entry));
-    known.count() as u16
+    let entries = &token.table.entries;
+    entries.iter().filter(|entry| is_known(**entry)).count() as u16
 }
 
 // Writes the numbers of the known keys, two bytes each.
-fn write_keys(table: Table, out: &mut [u8])
-    requires { 2 * length (marked_keys table.entries) ≤ length out.old }
-    ensures { out.new ≡ over (keys_bytes (marked_keys table.entries)) out.old }
+fn write_keys(entries: &[Entry; 1024], out: &mut [u8])
+    requires { 2 * length (marked_keys entries.now) ≤ length out.old }
+    ensures { out.new ≡ over (keys_bytes (marked_keys entries.now)) out.old }
 {
     let mut at = 0;
-    for entry in table.entries {
-        if is_known(entry) {
-            out[at..at + 2].copy_from_slice(&key_of(entry).0.to_be_bytes());
+    for entry in entries {
+        if is_known(*entry) {
+            out[at..at + 2].copy_from_slice(&key_of(*entry).0.to_be_bytes());
             at += 2;
         }
     }
@@ -47,7 +47,7 @@ pub fn known_keys(token: Token, out: &mut [u8]) -> Result<u16, Short>
     if out.len() < 2 * usize::from(count) {
         return Err(Short);
     }
-    write_keys(token.table, out);
+    write_keys(&token.table.entries, out);
     Ok(count)
 }
 
@@ -55,11 +55,8 @@ pub fn known_keys(token: Token, out: &mut [u8]) -> Result<u16, Short>
 pub fn origin(token: Token, k: KeyNo) -> Option<Origin>
     ensures { result ≡ origin_in token.table.entries k.0 }
 {
-    let entry = token
-        .table
-        .entries
-        .iter()
-        .find(|entry| entry.term == Term::Key(k))?;
+    let entries = &token.table.entries;
+    let entry = entries.iter().find(|entry| entry.term == Term::Key(k))?;
     Some(if entry.marks.own {
         Origin::Own
     } else {

@@ -3,4 +3,4 @@ use Rattle.token.proofs.ApiWritten.{Writing}
 use Rattle.token.proofs.known.write_keys.Given as goal
 
 abbrev pub invariant-loop-entry : goal.invariant-loop-entry
-invariant-loop-entry l = Writing l.entry-items l.initial.out l.entry-index l.at l.out
+invariant-loop-entry l = Writing l.entries l.initial.out l.entry-index l.at l.out

@@ -1,5 +1,4 @@
--- Digits of words, their bits, what the code does with them, and what that says of the live handles.
-pub mod LiveWordsDigits
+-- Bits of words, what the code does with them, and what that says of the live handles.
 pub mod LiveWordsBits
 pub mod LiveWordsCode
 pub mod LiveWords

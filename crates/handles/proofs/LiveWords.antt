@@ -1,5 +1,5 @@
 -- Four words that show the live handles of a state: they are the only words that do, their lowest bit not set is the number that
--- a new handle takes, and their ones are as many as the live handles. Rests on the laws of digits and of bits.
+-- a new handle takes, and their ones are as many as the live handles. Rests on the laws of bits.
 use Prim.Native.Nat.{ℕ, zero, suc, ◌+◌, ◌*◌, ◌/◌, ◌%◌, ◌≤◌, ◌<◌}
 use native.Mathlib.Decide.{ℕ_discrete}
 use native.Mathlib.Omega.{arith}
@@ -14,12 +14,12 @@ use Rattle.rules.specs.State.{Now, Slot, dead, live, slot, is_live, most_handles
 use Rattle.rules.proofs.NewHandle.{new_handle_dead, below_new_handle, new_handle_below, all_live_each}
 use Rattle.std.specs.Prelude.{Some, None}
 use Rattle.handles.specs.Live.{bit, Words, BitSet, free_in, count_below, count_in}
-use Rattle.handles.proofs.LiveWordsDigits.{digit_small, digit_of_zero, digits_unique}
-use Rattle.handles.proofs.LiveWordsBits.{bit_at, first_of, full_of}
+use Rattle.std.proofs.lemmas.Nat.Bits.{bit_at-lt, bit_at-zero, same_from_bits_below}
+use Rattle.handles.proofs.LiveWordsBits.{bit_in, first_of, full_of}
 
--- digits that are 1 alike are alike
-same_digit : (a b : ℕ) → a < 2 → b < 2 → eqb a 1 ≡ eqb b 1 → a ≡ b
-same_digit a b la lb e = go (eqb b 1) refl
+-- bits that are 1 alike are alike
+same_bit : (a b : ℕ) → a < 2 → b < 2 → eqb a 1 ≡ eqb b 1 → a ≡ b
+same_bit a b la lb e = go (eqb b 1) refl
   where
     go : (t : Bool) → eqb b 1 ≡ t → a ≡ b
     go true q = omega (arith, eqb-true a 1 (e ∙ q), eqb-true b 1 q)
@@ -32,9 +32,9 @@ words_unique {v} {w} p q same =
   where
     word : (i : ℕ) → i < 4 → get_or v i 0 ≡ get_or w i 0
     word i l =
-        digits_unique 64 (get_or v i 0) (get_or w i 0) (p.fit i l) (q.fit i l)
-        (λ j k. same_digit _ _ (digit_small (get_or v i 0) j) (digit_small (get_or w i 0) j)
-        (sym (bit_at v i j k) ∙ same (i * 64 + j) (omega arith) ∙ bit_at w i j k))
+        same_from_bits_below 64 (get_or v i 0) (get_or w i 0) (p.fit i l) (q.fit i l)
+        (λ j k. same_bit _ _ (bit_at-lt (get_or v i 0) j) (bit_at-lt (get_or w i 0) j)
+        (sym (bit_in v i j k) ∙ same (i * 64 + j) (omega arith) ∙ bit_in w i j k))
 
 -- two results of setting one bit are equal
 pub set_unique : {words v w : List ℕ} {h : ℕ} {to : Bool} → BitSet words h to v → BitSet words h to w → v ≡ w
@@ -59,7 +59,7 @@ blank_words = record { four = refl; fit = λ i l. rw (blank_word i) (lit< tt) }
 -- and every bit of them is false
 pub blank_bit : (h : ℕ) → bit (replicate 4 0) h ≡ false
 unfolding bit
-blank_bit h = rw (blank_word (h / 64), digit_of_zero (h % 64))
+blank_bit h = rw (blank_word (h / 64), bit_at-zero (h % 64))
 
 -- one slot more: counted where it is live
 count_snoc : (slots : List Slot) (s : Slot) →

@@ -1,13 +1,13 @@
 // Making a change in the token's parts.
-ghost use Rattle.std.specs.Prelude.{◌≡◌, ◌<◌, true, false};
+ghost use Rattle.std.specs.Prelude.{◌≡◌, ◌<◌};
 ghost use Rattle.rules.specs.State.{most_terms};
-ghost use Rattle.token.specs.Shows.{blank_slot, entry as entry_with};
+ghost use Rattle.token.specs.Shows.{entry as entry_with};
 ghost use Rattle.running.specs.Applied.{Applicable, Applied, SlotSet, appended};
 
 use crate::leaks::follow;
 use crate::link::link;
 use deciding::Change;
-use handles::{set_dead, set_live};
+use handles::set;
 use shapes::{Entry, HandleNo, KeyNo, Marks, Slot, Term, TermNo};
 use token::{Hands, Table, Token};
 
@@ -18,20 +18,12 @@ const BLANK: Slot = Slot {
     flags: 0,
 };
 
-// The handle stands for the slot's key.
-fn bind(hands: &mut Hands, h: HandleNo, slot: Slot)
-    ensures { SlotSet hands.old h.0 slot true hands.new }
+// The handle is live and stands for this slot, or is not and has this one.
+fn put(hands: &mut Hands, h: HandleNo, slot: Slot, live: bool)
+    ensures { SlotSet hands.old h.0 slot live hands.new }
 {
     hands.slots[h.0 as usize] = slot;
-    hands.live = set_live(hands.live, h);
-}
-
-// The handle stands for nothing.
-fn release(hands: &mut Hands, h: HandleNo)
-    ensures { SlotSet hands.old h.0 blank_slot false hands.new }
-{
-    hands.slots[h.0 as usize] = BLANK;
-    hands.live = set_dead(hands.live, h);
+    hands.live = set(hands.live, h, live);
 }
 
 // One more entry, and one more key where it is a key's.
@@ -58,12 +50,12 @@ pub fn apply(token: &mut Token, change: Change)
     let keys = token.table.keys;
     match change {
         Change::Nothing => {}
-        Change::Bind(h, slot) => bind(&mut token.hands, h, slot),
-        Change::Release(h) => release(&mut token.hands, h),
+        Change::Bind(h, slot) => put(&mut token.hands, h, slot, true),
+        Change::Release(h) => put(&mut token.hands, h, BLANK, false),
         Change::NewKey(h, flags) => {
             let (key, term) = (KeyNo(keys), TermNo(terms));
             append(&mut token.table, Term::Key(key), false, false);
-            bind(&mut token.hands, h, Slot { key, term, flags });
+            put(&mut token.hands, h, Slot { key, term, flags }, true);
         }
         Change::OwnKey => append(&mut token.table, Term::Key(KeyNo(keys)), true, true),
         Change::OwnData => append(&mut token.table, Term::Data, true, true),

@@ -17,7 +17,7 @@ pub struct KeyNo(pub u16);
 pub struct TermNo(pub u16);
 
 // A term: a data item, a key, or a seal of a term under a key.
-#[derive(Clone, Copy)]
+#[derive(Clone, Copy, PartialEq, Eq)]
 pub enum Term {
     Data,
     Key(KeyNo),

@@ -1,18 +1,22 @@
--- Walking the entries of a table from the front: how many known keys have been passed, and that a key has not been met yet.
+-- The entries of a table from the front: the known keys from an entry on, how many there are, and the first entry of a key.
 -- Rests on the definitions alone.
-use Prim.Native.Nat.{ℕ, ◌+◌, ◌≤◌, ◌<◌}
-use mathlib.Core.Path.{◌≡◌, refl, ap}
-use mathlib.Core.Bool.{true, false}
+use Prim.Native.Nat.{ℕ, zero, suc, ◌+◌, ◌≤◌, ◌<◌}
+use mathlib.Core.Path.{◌≡◌, refl, sym, ap, subst}
+use mathlib.Core.Bool.{true, false, false≢true}
+use mathlib.Core.Logic.{◌≢◌}
 use mathlib.Core.List.{List, [], ◌∷◌}
 use native.Mathlib.Omega.{arith}
 use native.Mathlib.Numerals.{add-one}
 use lib.ListN.{length, get_or, drop, drop_of_length-le}
 use lib.Seq.{drop-cons}
-use Rattle.rules.specs.State.{most_terms}
+use borrow.Author.Tests.{eqb-true, eq-eqb}
+use Rattle.std.specs.Prelude.{Some, None, filter}
+use Rattle.terms.proofs.Lists.{bool_cases}
 use Rattle.shapes.specs.declared.Entry.{Entry}
-use Rattle.std.specs.Prelude.{Some, None}
-use Rattle.token.specs.Shows.{blank_entry}
+use Rattle.shapes.specs.declared.Term.{Term as Kind}
+use Rattle.shapes.specs.declared.Term.TheVariants.{Data, Key, Seal}
 use Rattle.shapes.specs.Entries.{key_of, is_own_entry}
+use Rattle.token.specs.Shows.{blank_entry}
 use Rattle.token.specs.Known.{is_marked, marked_keys, is_key_no, origin_of, origin_in}
 
 -- the known keys from entry i on, where that is a known key and where it is none
@@ -31,55 +35,50 @@ pub none_left : (entries : List Entry) (i : ℕ) → length entries ≤ i → ma
 unfolding marked_keys
 none_left entries i h = rw (drop_of_length-le entries h)
 
--- the first i entries hold `count` known keys
-pub record Counted (entries : List Entry) (i count : ℕ) : Type 0 where
-  pub in_table : i ≤ most_terms
-  pub few : count ≤ i
-  pub rest : length (marked_keys entries) ≡ count + length (marked_keys (drop i entries))
+-- the known keys are the numbers of the entries that pass the test
+pub marked_filter : (entries : List Entry) → length (marked_keys entries) ≡ length (filter is_marked entries)
+unfolding marked_keys
+marked_filter [] = refl
+marked_filter (e ∷ entries) =
+    bool_cases (is_marked e) (λ (q : is_marked e ≡ true). rw q (ap suc (marked_filter entries)))
+    (λ (q : is_marked e ≡ false). rw q (marked_filter entries))
 
-pub counted_none : (entries : List Entry) → Counted entries 0 0
-counted_none entries = record { in_table = omega arith; few = omega arith; rest = omega arith }
+-- a kind is key number k's, or it is not
+pub is_key_true : (k : ℕ) (kind : Kind) → is_key_no k kind ≡ true → kind ≡ Key (record { 0 = k })
+unfolding is_key_no
+is_key_true k Data e = absurd (false≢true e)
+is_key_true k (Key j) e = ap (λ (n : ℕ). Key (record { 0 = n })) (eqb-true j.0 k e)
+is_key_true k (Seal j p) e = absurd (false≢true e)
 
-module _ (entries : List Entry) (i count : ℕ) (whole : length entries ≡ most_terms) (so_far : Counted entries i count) where
-  pub counted_one : i < most_terms → is_marked (get_or entries i blank_entry) ≡ true → Counted entries (i + 1) (count + 1)
-  counted_one h e =
-      record {
-        in_table = omega arith;
-        few = omega arith;
-        rest = omega (arith, so_far.rest, ap length (next_marked entries i (omega arith) e));
-      }
+pub is_key_here : (k : ℕ) (kind : Kind) → kind ≡ Key (record { 0 = k }) → is_key_no k kind ≡ true
+unfolding is_key_no
+is_key_here k kind e = subst (λ (x : Kind). is_key_no k x ≡ true) (sym e) (eq-eqb k k refl)
 
-  pub counted_other : i < most_terms → is_marked (get_or entries i blank_entry) ≡ false → Counted entries (i + 1) count
-  counted_other h e =
-      record {
-        in_table = omega arith;
-        few = omega arith;
-        rest = omega (arith, so_far.rest, ap length (next_other entries i (omega arith) e));
-      }
+-- the first entry of key k tells its origin
+origin_first : (entries : List Entry) (k i : ℕ) → (get_or entries i blank_entry).term ≡ Key (record { 0 = k })
+    → ((j : ℕ) → j < i → (get_or entries j blank_entry).term ≢ Key (record { 0 = k }))
+    → origin_in entries k ≡ Some (origin_of (is_own_entry (get_or entries i blank_entry)))
+unfolding origin_in
+origin_first [] k i e before = cc
+origin_first (x ∷ entries) k zero e before = rw (is_key_here k x.term e)
+origin_first (x ∷ entries) k (suc i) e before =
+    bool_cases (is_key_no k x.term)
+    (λ (q : is_key_no k x.term ≡ true). absurd (before 0 (omega arith) (is_key_true k x.term q)))
+    (λ (q : is_key_no k x.term ≡ false). rw q (origin_first entries k i e (λ j l. before (suc j) (omega arith))))
 
-  pub counted_all : most_terms ≤ i → count ≡ length (marked_keys entries)
-  counted_all h = omega (arith, so_far.rest, ap length (none_left entries i (omega arith)))
+pub origin_told : (entries : List Entry) (k : ℕ) (e : Entry)
+    → (i : ℕ) × (e ≡ get_or entries i blank_entry) × (e.term ≡ Key (record { 0 = k }))
+    × ((j : ℕ) → j < i → (get_or entries j blank_entry).term ≢ Key (record { 0 = k }))
+    → Some (origin_of (is_own_entry e)) ≡ origin_in entries k
+origin_told entries k e (i, same, is, before) = sym (rw same (origin_first entries k i (rw same at is) before))
 
--- key k is not among the first i entries
-pub record Sought (entries : List Entry) (k i : ℕ) : Type 0 where
-  pub in_table : i ≤ most_terms
-  pub rest : origin_in entries k ≡ origin_in (drop i entries) k
-
-pub sought_none : (entries : List Entry) (k : ℕ) → Sought entries k 0
-sought_none entries k = record { in_table = omega arith; rest = refl }
-
-module _ (entries : List Entry) (k i : ℕ) (whole : length entries ≡ most_terms) (so_far : Sought entries k i) where
-  pub sought_here : i < most_terms → is_key_no k (get_or entries i blank_entry).term ≡ true
-      → Some (origin_of (is_own_entry (get_or entries i blank_entry))) ≡ origin_in entries k
-  unfolding origin_in
-  sought_here h e = let l : i < length entries = omega arith in rw (so_far.rest, drop-cons entries i blank_entry, e)
-
-  pub sought_other : i < most_terms → is_key_no k (get_or entries i blank_entry).term ≡ false → Sought entries k (i + 1)
-  unfolding origin_in
-  sought_other h e =
-      let l : i < length entries = omega arith in
-      record { in_table = omega arith; rest = rw (so_far.rest, add-one, drop-cons entries i blank_entry, e) }
-
-  pub sought_all : most_terms ≤ i → None ≡ origin_in entries k
-  unfolding origin_in
-  sought_all h = let l : length entries ≤ i = omega arith in rw (so_far.rest, drop_of_length-le entries l)
+-- and where no entry is key k's there is no such key
+pub origin_none : (entries : List Entry) (k : ℕ)
+    → ((i : ℕ) → i < length entries → (get_or entries i blank_entry).term ≢ Key (record { 0 = k }))
+    → origin_in entries k ≡ None
+unfolding origin_in
+origin_none [] k no_entry = refl
+origin_none (x ∷ entries) k no_entry =
+    bool_cases (is_key_no k x.term)
+    (λ (q : is_key_no k x.term ≡ true). absurd (no_entry 0 (omega arith) (is_key_true k x.term q)))
+    (λ (q : is_key_no k x.term ≡ false). rw q (origin_none entries k (λ i l. no_entry (suc i) (omega arith))))

@@ -1,13 +1,14 @@
 -- Writing the known keys over the front of a buffer, two bytes each, entry by entry. Rests on ApiKnown.
-use Prim.Native.Nat.{ℕ, suc, ◌+◌, ◌*◌, ◌/◌, ◌%◌, ◌≤◌, ◌<◌}
+use Prim.Native.Nat.{ℕ, suc, ◌+◌, ◌*◌, ◌≤◌, ◌<◌}
 use mathlib.Core.Path.{◌≡◌, refl, sym, ◌∙◌, ap}
 use mathlib.Core.Bool.{Bool, true, false, cond}
 use mathlib.Core.List.{List, ◌∷◌, ◌++◌, append_assoc}
 use native.Mathlib.Omega.{arith}
-use native.Mathlib.Numerals.{add-one}
 use lib.Dec.{leb}
-use lib.ListN.{length, get_or, take, drop, set, length-set, take-append-drop}
-use lib.Seq.{drop-drop, take-suc-set, drop-set-lt}
+use lib.ListN.{length, get_or, take, drop, take-append-drop, length-append, length-take, length-drop}
+use lib.Seq.{drop-drop}
+use borrow.Rule.Slice.PartMut.{put_mid}
+use Rattle.std.proofs.lemmas.Slice.{take-put_mid, drop-put_mid}
 use borrow.Author.Tests.{le-leb, lt-leb}
 use Rattle.rules.specs.State.{most_terms}
 use Rattle.sheets.specs.Bytes.{two}
@@ -24,21 +25,16 @@ use Rattle.token.proofs.ApiKnown.{next_marked, next_other, none_left}
 -- writing keys over a buffer from place `at` on is writing the first key there, and the others two places on
 pub over_next : (k : ℕ) (keys out : List ℕ) (at : ℕ) → at + 2 ≤ length out
     → take at out ++ over (keys_bytes (k ∷ keys)) (drop at out)
-    ≡ take (at + 2) (set (set out at (k / 256)) (at + 1) (k % 256))
-    ++ over (keys_bytes keys) (drop (at + 2) (set (set out at (k / 256)) (at + 1) (k % 256)))
+    ≡ take (at + 2) (put_mid at 2 out (two k)) ++ over (keys_bytes keys) (drop (at + 2) (put_mid at 2 out (two k)))
 unfolding over keys_bytes two
 over_next k keys out at h =
-    let two_on : at + 2 ≡ suc (suc at) = omega arith in
-    let inside : at < length out = omega arith in
-    let next_inside : suc at < length (set out at (k / 256)) = simp length-set (omega arith) in
     let n = length (keys_bytes keys) in
-    let far : at + suc (suc n) ≡ suc (suc at) + n = omega arith in
-    let behind : drop (suc (suc n)) (drop at out) ≡ drop n (drop (suc (suc at)) out) =
-    drop-drop (suc (suc n)) at out ∙ ap (λ (m : ℕ). drop m out) far ∙ sym (drop-drop n (suc (suc at)) out) in
-    let past : at < suc (suc at) = omega arith in
-    let next_past : suc at < suc (suc at) = omega arith in
-    rw (add-one, two_on, behind, take-suc-set _ (suc at) _ next_inside, take-suc-set out at _ inside)
-    (simp (append_assoc, drop-set-lt))
+    let inside : at ≤ length out = omega arith in
+    let far : at + suc (suc n) ≡ at + 2 + n = omega arith in
+    let behind : drop (suc (suc n)) (drop at out) ≡ drop n (drop (at + 2) out) =
+    drop-drop (suc (suc n)) at out ∙ ap (λ (m : ℕ). drop m out) far ∙ sym (drop-drop n (at + 2) out) in
+    rw (behind, take-put_mid at 2 out (two k) (at + 2) refl inside, drop-put_mid at 2 out (two k) (at + 2) (omega arith) inside refl)
+    (simp append_assoc)
 
 -- the first i entries' known keys are written, and `at` is the place behind them
 pub record Writing (entries : List Entry) (before : List ℕ) (i at : ℕ) (out : List ℕ) : Type 0 where
@@ -71,17 +67,20 @@ module _ (entries : List Entry) (before : List ℕ) (i at : ℕ) (out : List ℕ
       let l : i < length entries = omega arith in
       omega (arith, so_far.room, ap length (next_marked entries i l e))
 
-  pub writing_one : i < most_terms → is_marked (get_or entries i blank_entry) ≡ true → (k : ℕ)
-      → k ≡ (key_of (get_or entries i blank_entry).term).0
-      → Writing entries before (i + 1) (at + 2) (set (set out at (k / 256)) (at + 1) (k % 256))
-  writing_one h e k same =
+  pub writing_one : i < most_terms → is_marked (get_or entries i blank_entry) ≡ true
+      → Writing entries before (i + 1) (at + 2) (put_mid at 2 out (two (key_of (get_or entries i blank_entry).term).0))
+  unfolding two
+  writing_one h e =
+      let k = (key_of (get_or entries i blank_entry).term).0 in
       let l : i < length entries = omega arith in
-      let next : marked_keys (drop i entries) ≡ k ∷ marked_keys (drop (i + 1) entries) = next_marked entries i l e ∙ (cc) in
+      let next = next_marked entries i l e in
+      let inside : at + 2 ≤ length out = writing_room h e in
+      let same : length (put_mid at 2 out (two k)) ≡ length out = simp (length-append, length-take, length-drop) (omega arith) in
       record {
         in_table = omega arith;
-        same_length = simp length-set so_far.same_length;
-        room = simp length-set (omega (arith, so_far.room, ap length next));
-        rest = (rw next at so_far.rest) ∙ over_next k (marked_keys (drop (i + 1) entries)) out at (writing_room h e);
+        same_length = same ∙ so_far.same_length;
+        room = omega (arith, same, so_far.room, ap length next);
+        rest = (rw next at so_far.rest) ∙ over_next k (marked_keys (drop (i + 1) entries)) out at inside;
       }
 
   pub writing_all : most_terms ≤ i → out ≡ over (keys_bytes (marked_keys entries)) before

@@ -3,4 +3,4 @@ use Rattle.handles.proofs.LiveWordsCode.{bit_read}
 use Rattle.handles.proofs.is_live.Goals as goal
 
 pub returns : goal.returns
-returns c = bit_read c.args.live c.args.h.0
+returns c = rw c.from.ensures (bit_read c.args.live c.args.h.0)

@@ -1,13 +1,13 @@
--- `known_count` meets its contract: the whole count is what is passed and what is not passed yet (ApiKnown).
-use mathlib.Core.Path.{sym, ◌∙◌}
-use Rattle.token.proofs.ApiKnown.{counted_one, counted_other, counted_all}
+-- `known_count` meets its contract: the entries that pass the test are as many as the known keys (ApiKnown).
+use Rattle.std.proofs.Common.{rules, ◌≡◌, ◌∙◌, ◌&&◌, sym, count_by}
+use Rattle.std.proofs.lemmas.List.Sums.{length-filter}
+use Rattle.shapes.specs.Entries.{is_key_kind, is_held}
+use Rattle.token.specs.Known.{is_marked}
+use Rattle.token.proofs.ApiKnown.{marked_filter}
 use Rattle.token.proofs.known.known_count.Goals as goal
 
-pub loop-i-preserved-then-is_known : goal.loop-i-preserved-then-is_known
-loop-i-preserved-then-is_known c = counted_one _ _ _ ((c.well_formed.0.1.1.0.1.1.0.1.0.1)) c.loop-i.invariant c.loop-i-test.true (sym c.is_known.ensures ∙ c.if-is_known.true)
-
-pub loop-i-preserved : goal.loop-i-preserved
-loop-i-preserved c = counted_other _ _ _ ((c.well_formed.0.1.1.0.1.1.0.1.0.1)) c.loop-i.invariant c.loop-i-test.true (sym c.is_known.ensures ∙ c.if-is_known.false)
-
 pub returns : goal.returns
-returns c = counted_all _ _ _ ((c.well_formed.0.1.1.0.1.1.0.1.0.1)) c.loop-i.invariant c.loop-i-test.false
+returns c =
+    let entries = c.args.token.table.entries in
+    let counted : c.count.result ≡ count_by (λ e. is_key_kind e.term && is_held e) entries = search rules in
+    counted ∙ sym (length-filter is_marked entries) ∙ sym (marked_filter entries)

@@ -1,9 +1,9 @@
 -- The tally of records: one more answer, by the code's test; and that a tally of so many records counts so many. Rests on the
 -- definitions alone.
-use Prim.Native.Nat.{ℕ, zero, suc, ◌+◌, ◌*◌, ◌≤◌, ◌<◌}
+use Prim.Native.Nat.{ℕ, zero, suc, ◌+◌, ◌*◌, ◌<◌}
 use native.Mathlib.Omega.{arith}
 use native.Mathlib.Numerals.{add-one}
-use mathlib.Core.Path.{◌≡◌, refl, sym, ap, ◌∙◌}
+use mathlib.Core.Path.{◌≡◌, refl, ap, ◌∙◌}
 use mathlib.Core.List.{List}
 use lib.ListN.{get_or}
 use Rattle.sheets.specs.Bytes.{byte_at}
@@ -35,27 +35,16 @@ tally_size records zero = refl
 tally_size records (suc n) = count_size (byte_at records (3 * n)) (tally_of records n) ∙ ap suc (tally_size records n)
 
 -- with i records behind, those are counted
-pub record Tallied (records : List ℕ) (n i : ℕ) (t : Counts) : Type 0 where
-  pub in_records : i ≤ n
-  pub so_far : t ≡ as_counts (tally_of records i)
-
-pub tallied_none : (records : List ℕ) (n : ℕ) → Tallied records n 0 (record { done = 0; refused = 0 })
+pub tallied_none : (records : List ℕ) → record { done = 0; refused = 0 } ≡ as_counts (tally_of records 0)
 unfolding tally_of
-tallied_none records n = record { in_records = omega arith; so_far = refl }
+tallied_none records = refl
 
-module _ (records : List ℕ) (n i : ℕ) (t : Counts) (tallied : Tallied records n i t) where
-  pub tallied_room : n ≤ 4096 → t.done + t.refused < 65535
-  tallied_room h = rw tallied.so_far (omega (arith, tally_size records i, tallied.in_records))
+module _ (records : List ℕ) (i : ℕ) (t : Counts) (tallied : t ≡ as_counts (tally_of records i)) where
+  pub tallied_room : i < 65535 → t.done + t.refused < 65535
+  tallied_room h = rw tallied (omega (arith, tally_size records i))
 
-  pub tallied_next : i < n → (r : Counts) → r ≡ as_counts (count_one (get_or records (3 * i) 0) (as_tally t))
-      → Tallied records n (i + 1) r
+  pub tallied_next : (r : Counts) → r ≡ as_counts (count_one (get_or records (3 * i) 0) (as_tally t))
+      → r ≡ as_counts (tally_of records (i + 1))
   unfolding tally_of byte_at
-  tallied_next h r e =
-      record {
-        in_records = omega arith;
-        so_far =
-            rw add-one (e ∙ ap (λ (x : Counts). as_counts (count_one (get_or records (3 * i) 0) (as_tally x))) tallied.so_far);
-      }
-
-  pub tallied_all : n ≤ i → t ≡ as_counts (tally_of records n)
-  tallied_all h = let e : i ≡ n = omega (arith, tallied.in_records) in rw (sym e) tallied.so_far
+  tallied_next r e =
+      rw add-one (e ∙ ap (λ (x : Counts). as_counts (count_one (get_or records (3 * i) 0) (as_tally x))) tallied)

@@ -1,12 +1,11 @@
 -- Laws of bytes written into a buffer from a place on: nothing, one byte, one string behind another. Rests on specs/Writing.antt.
-use Prim.Native.Nat.{ℕ, ◌+◌, ◌-◌, ◌≤◌, ◌<◌}
+use Prim.Native.Nat.{ℕ, ◌+◌, ◌-◌, ◌≤◌}
 use native.Mathlib.Nat.{add-zero, zero-add}
-use native.Mathlib.Numerals.{add-one}
 use native.Mathlib.Omega.{arith}
 use mathlib.Core.Path.{◌≡◌, refl, sym, ap, ◌∙◌, subst}
-use mathlib.Core.List.{List, [], ◌∷◌, ◌++◌, append_assoc, append-nil}
-use lib.ListN.{length, take, drop, set, length-append, length-drop, take-append-drop}
-use lib.Seq.{length-take-le, take_at, drop_at, drop-drop, set_split}
+use mathlib.Core.List.{List, [], ◌++◌, append_assoc, append-nil}
+use lib.ListN.{length, take, drop, length-append, length-drop, take-append-drop}
+use lib.Seq.{length-take-le, take_at, drop_at, drop-drop}
 use borrow.Rule.Slice.PartMut.{put_mid}
 use Rattle.sheets.specs.Calls.{over}
 use Rattle.text.specs.declared.append.Page.{Page}
@@ -61,17 +60,6 @@ wrote_none buffer at h =
     record {
       written = rw (add-zero, append-nil) (sym (take-append-drop at buffer));
       behind = sym (add-zero at);
-      few = omega arith;
-      inside = omega arith;
-    }
-
--- one byte is written
-pub wrote_byte : (buffer : List ℕ) (at byte : ℕ) → at < length buffer → Wrote 1 (byte ∷ []) buffer at (set buffer at byte) (at + 1)
-unfolding placed
-wrote_byte buffer at byte h =
-    record {
-      written = rw (add-one, append_assoc) (set_split buffer at byte h);
-      behind = refl;
       few = omega arith;
       inside = omega arith;
     }

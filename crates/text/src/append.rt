@@ -24,8 +24,7 @@ impl Page<'_> {
         requires { HasRoom 1 self.old }
         ensures { Puts 1 (byte ∷ []) self.old self.new }
     {
-        self.buffer[self.at] = byte;
-        self.at += 1;
+        self.bytes(&[byte]);
     }
 
     // A number's digits: the last one behind those of a tenth of it.

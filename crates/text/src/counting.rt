@@ -6,6 +6,7 @@ ghost use Rattle.text.specs.Printing.{tally_of, as_counts, as_tally};
 use crate::Tally;
 
 // Records one answer in a tally that is lent.
+#[tactic(auto, unfolding(sheets::specs::Reports::count_one))]
 fn record(tally: &mut Tally, answer: u8)
     requires { tally.old.done + tally.old.refused < 65535 }
     ensures { tally.new ≡ as_counts (count_one answer (as_tally tally.old)) }
@@ -18,6 +19,7 @@ fn record(tally: &mut Tally, answer: u8)
 }
 
 // The tally of the first n records.
+#[tactic(auto, using(crate::proofs::Counts::tally_size, crate::proofs::Counts::tallied_next), unfolding(crate::specs::Printing::tally_of))]
 pub fn tally_of(records: &[u8; 12288], n: u16) -> Tally
     requires { n ≤ 4096 }
     ensures { result ≡ as_counts (tally_of records.now n) }

@@ -1,0 +1,2 @@
+-- What reads in a row give.
+pub mod Joined

@@ -2,8 +2,7 @@
 // standard input it does not.
 #![tactic(auto)]
 
-ghost use Rattle.std.specs.Prelude.{ℕ, ◌<◌, ◌≤◌, length, take, IfOk, OnErr};
-ghost use Rattle.std.specs.Io.KnownBytes.{Consumes, IsAtEnd};
+ghost use Rattle.input.specs.Filling.{FilledFrom};
 
 use std::io;
 use std::io::Read;
@@ -11,11 +10,7 @@ use std::io::Read;
 // Reads until the bytes are full or the input ends, and gives how many there are. Where a read fails, what was read before stands at
 // the front of the bytes.
 pub fn read_full<R: Read>(input: &mut R, bytes: &mut [u8]) -> io::Result<usize>
-    ensures count { IfOk result (λ n. n ≤ length bytes.new) }
-    ensures taken { IfOk result (λ n. Consumes (R.remaining input.old) (R.remaining input.new) (take n bytes.new)) }
-    ensures whole { IfOk result (λ n. n < length bytes.new → IsAtEnd (R.remaining input.new)) }
-    ensures failed { OnErr result ((n : ℕ) × (n ≤ length bytes.new)
-        × Consumes (R.remaining input.old) (R.remaining input.new) (take n bytes.new)) }
+    ensures { FilledFrom (R.remaining input.old) (R.remaining input.new) bytes.new result }
 {
     let mut n: usize = 0;
     while n < bytes.len() {

@@ -1,0 +1,2 @@
+-- What reading into lent bytes gives.
+pub mod Filling

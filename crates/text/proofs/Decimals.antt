@@ -3,15 +3,16 @@
 use Prim.Native.Nat.{ℕ, zero, suc, ◌+◌, ◌/◌, ◌%◌, ◌^◌, ◌≤◌, ◌<◌}
 use native.Mathlib.Omega.{arith}
 use mathlib.Core.Path.{◌≡◌, refl, sym, ap, ◌∙◌}
-use mathlib.Core.Bool.{true, false}
+use mathlib.Core.Bool.{true, false, cond}
 use mathlib.Core.List.{List, [], ◌∷◌, ◌++◌}
 use lib.Dec.{ltb}
-use lib.ListN.{length, set, length-append}
+use lib.ListN.{length, length-append}
 use borrow.Author.Tests.{ltb-true, ltb-false, lt-ltb, le-ltb}
 use Rattle.terms.proofs.Lists.{bool_cases}
 use Rattle.text.specs.Text.{digit, digits, decimal}
-use Rattle.text.specs.Writing.{Wrote}
-use Rattle.text.proofs.Placed.{wrote_length, wrote_byte, wrote_then, wrote_few, wrote_as}
+use Rattle.text.specs.declared.append.Page.{Page}
+use Rattle.text.specs.Writing.{HasRoom, Puts}
+use Rattle.text.proofs.Placed.{puts_none, puts_then, puts_few, puts_as}
 
 -- as many digits as the number's size are enough: more change nothing
 digits_enough : (t u n : ℕ) → n ≤ t → n ≤ u → digits t n ≡ digits u n
@@ -46,29 +47,50 @@ decimal_most (suc k) n h =
     rw (decimal_more n (ltb-false n 10 e))
     (omega (arith, length-append (decimal (n / 10)) (digit (n % 10) ∷ []), decimal_most k (n / 10) (omega arith))))
 
--- a number's digits written: one digit, and the last digit behind those of a tenth
-module _ (x : ℕ) (before : List ℕ) (at : ℕ) (room : at + length (decimal x) ≤ length before) where
-  pub digit_room : x < 10 → at < length before
-  digit_room h = omega (arith, ap length (decimal_small x h))
+-- the digits before the last one: none below 10, else those of a tenth
+unfoldable pub front : ℕ → List ℕ
+front x = cond (ltb x 10) [] (decimal (x / 10))
 
-  pub wrote_digit : x < 10 → Wrote (length (decimal x)) (decimal x) before at (set before at (48 + x)) (at + 1)
-  wrote_digit h = rw (decimal_small x h) (wrote_byte before at (48 + x) (digit_room h))
+front_small : (x : ℕ) → x < 10 → front x ≡ []
+unfolding front
+front_small x h = rw (lt-ltb x 10 h) refl
 
-  long : 10 ≤ x → length (decimal x) ≡ length (decimal (x / 10)) + 1
-  long h = ap length (decimal_more x h) ∙ length-append (decimal (x / 10)) (digit (x % 10) ∷ [])
+front_more : (x : ℕ) → 10 ≤ x → front x ≡ decimal (x / 10)
+unfolding front
+front_more x h = rw (le-ltb x 10 h) refl
 
-  pub tenth_room : 10 ≤ x → at + length (decimal (x / 10)) ≤ length before
-  tenth_room h = omega (arith, long h)
+decimal_front : (x : ℕ) → decimal x ≡ front x ++ digit (x % 10) ∷ []
+decimal_front x =
+    bool_cases (ltb x 10)
+    (λ (e : ltb x 10 ≡ true).
+    let low : x < 10 = ltb-true x 10 e in
+    let same : x % 10 ≡ x = omega (arith, low) in
+    rw (front_small x low, same) (decimal_small x low))
+    (λ (e : ltb x 10 ≡ false).
+    let high : 10 ≤ x = ltb-false x 10 e in
+    rw (front_more x high) (decimal_more x high))
 
-  module _ (h : 10 ≤ x) (middle : List ℕ) (last : ℕ)
-      (tenth : Wrote (length (decimal (x / 10))) (decimal (x / 10)) before at middle last) where
-    pub last_room : last < length middle
-    last_room = omega (arith, long h, tenth.behind, wrote_length tenth)
+pub front_room : (x at most : ℕ) → 10 ≤ x → at + length (decimal x) ≤ most → at + length (decimal (x / 10)) ≤ most
+front_room x at most high h =
+    omega (arith, ap length (decimal_more x high), length-append (decimal (x / 10)) (digit (x % 10) ∷ []))
 
-    pub wrote_last : Wrote (length (decimal x)) (decimal x) before at (set middle last (48 + x % 10)) (last + 1)
-    wrote_last =
-        wrote_few (length (decimal x)) (omega arith)
-        (wrote_as (sym (decimal_more x h)) (wrote_then tenth (wrote_byte middle last (48 + x % 10) last_room)))
+-- a number's digits put on a page: those of a tenth where it has some, and the last one behind them
+pub puts_no_front : (x : ℕ) → x < 10 → (page : Page) → page.at ≤ length page.buffer.now → Puts (length (front x)) (front x) page page
+puts_no_front x low page h = rw (front_small x low) (puts_none page h)
+
+pub puts_front : (x : ℕ) → 10 ≤ x → {before after : Page} → Puts (length (decimal (x / 10))) (decimal (x / 10)) before after
+    → Puts (length (front x)) (front x) before after
+puts_front x high p = rw (front_more x high) p
+
+module _ (x : ℕ) {before middle : Page} (fronted : Puts (length (front x)) (front x) before middle) where
+  long : length (decimal x) ≡ length (front x) + 1
+  long = ap length (decimal_front x) ∙ length-append (front x) (digit (x % 10) ∷ [])
+
+  pub last_room : HasRoom (length (decimal x)) before → HasRoom 1 middle
+  last_room room = omega (arith, room, long, fronted.same_length, fronted.wrote.behind)
+
+  pub puts_last : {after : Page} → Puts 1 (digit (x % 10) ∷ []) middle after → Puts (length (decimal x)) (decimal x) before after
+  puts_last p = puts_few (length (decimal x)) (omega arith) (puts_as (sym (decimal_front x)) (puts_then fronted p))
 
 -- a number of the code has at most five digits, and one that is a byte has three
 pub decimal_5 : (n : ℕ) → n < 65536 → length (decimal n) ≤ 5
@@ -77,10 +99,9 @@ decimal_5 n h = decimal_most 4 n (omega arith)
 pub decimal_3 : (n : ℕ) → n < 256 → length (decimal n) ≤ 3
 decimal_3 n h = decimal_most 2 n (omega arith)
 
--- a number written with one byte behind it
-pub wrote_number : (x after : ℕ) → x < 65536 → {before middle : List ℕ} {at end : ℕ}
-    → Wrote (length (decimal x)) (decimal x) before at middle end → end < length middle
-    → Wrote 6 (decimal x ++ after ∷ []) before at (set middle end after) (end + 1)
-wrote_number x after small {middle} {end} w room =
-    wrote_few 6 (omega (arith, length-append (decimal x) (after ∷ []), decimal_5 x small))
-    (wrote_then w (wrote_byte middle end after room))
+-- a number put on a page with one byte behind it
+pub puts_number : (x after : ℕ) → x < 65536 → {before middle end : Page} → Puts (length (decimal x)) (decimal x) before middle
+    → Puts 1 (after ∷ []) middle end
+    → Puts 6 (decimal x ++ after ∷ []) before end
+puts_number x after small digits last =
+    puts_few 6 (omega (arith, length-append (decimal x) (after ∷ []), decimal_5 x small)) (puts_then digits last)

@@ -4,14 +4,10 @@ use Prim.Native.Nat.{ℕ}
 use mathlib.Core.Path.{◌≡◌, refl, subst}
 use mathlib.Core.List.{List, [], ◌∷◌, ◌++◌}
 use mathlib.Core.Option.{Option, none, some}
-use mathlib.Core.Bool.{Bool, true, ◌&&◌}
-use lib.Dec.{ltb}
-use borrow.Author.Tests.{ltb-true}
 use Rattle.rules.specs.Templates.{Policy}
 use Rattle.rules.specs.Commands.{Command}
 use Rattle.rules.specs.State.{fresh}
 use Rattle.rules.specs.Computing.{said_by, end_of, known_of}
-use Rattle.rules.proofs.Named.{both}
 use Rattle.rules.proofs.SoundKept.{sound}
 use Rattle.rules.proofs.Computed.{has_run as run_made}
 use Rattle.rules.proofs.KnownLists.{known_of_is}
@@ -19,7 +15,6 @@ use Rattle.sheets.specs.Bytes.{Bytes, byte_at}
 use Rattle.sheets.specs.Faults.{count, first_fault}
 use Rattle.sheets.specs.Reports.{count_one, tally}
 use Rattle.sheets.specs.Reading.{read_commands, read_policy}
-use Rattle.sheets.proofs.Each.{each_nil, each_cons}
 use Rattle.sheets.proofs.Good.{good_sheet}
 use Rattle.sheets.proofs.Opened.{sheets_opened}
 use Rattle.sheets.proofs.AreBytes.{below_256, are_bytes}

@@ -1,9 +1,8 @@
--- From the ground up: bytes placed in a buffer, numbers in decimal, a line word by word, the tables of names, the lines of commands and of keys, the
+-- From the ground up: bytes placed in a buffer, numbers in decimal, a line word by word, the lines of commands and of keys, the
 -- tally, the whole text; then that the text computed is the text of document 01, and that every byte string has one text.
 pub mod Placed
 pub mod Decimals
 pub mod WordByWord
-pub mod NameTable
 pub mod CommandLines
 pub mod KnownKeyLines
 pub mod Counts

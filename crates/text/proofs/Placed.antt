@@ -1,14 +1,15 @@
 -- Laws of bytes written into a buffer from a place on: nothing, one byte, one string behind another. Rests on specs/Writing.antt.
-use Prim.Native.Nat.{ℕ, ◌+◌, ◌-◌, ◌≤◌, ◌<◌}
+use Prim.Native.Nat.{ℕ, ◌+◌, ◌-◌, ◌≤◌}
 use native.Mathlib.Nat.{add-zero, zero-add}
-use native.Mathlib.Numerals.{add-one}
 use native.Mathlib.Omega.{arith}
 use mathlib.Core.Path.{◌≡◌, refl, sym, ap, ◌∙◌, subst}
-use mathlib.Core.List.{List, [], ◌∷◌, ◌++◌, append_assoc, append-nil}
-use lib.ListN.{length, get_or, take, drop, set, length-append, length-take, length-drop, take-append-drop}
-use lib.Seq.{length-take-le, take_all, take-suc, take_at, drop_at, drop-drop, set_split}
+use mathlib.Core.List.{List, [], ◌++◌, append_assoc, append-nil}
+use lib.ListN.{length, take, drop, length-append, length-drop, take-append-drop}
+use lib.Seq.{length-take-le, take_at, drop_at, drop-drop}
+use borrow.Rule.Slice.PartMut.{put_mid}
 use Rattle.sheets.specs.Calls.{over}
-use Rattle.text.specs.Writing.{placed, Wrote, Printed}
+use Rattle.text.specs.declared.append.Page.{Page}
+use Rattle.text.specs.Writing.{placed, Wrote, Puts, Printed}
 
 -- what stands before, at and behind bytes that were placed inside the buffer
 module _ (at : ℕ) (bytes buffer : List ℕ) (inside : at + length bytes ≤ length buffer) where
@@ -63,15 +64,19 @@ wrote_none buffer at h =
       inside = omega arith;
     }
 
--- one byte is written
-pub wrote_byte : (buffer : List ℕ) (at byte : ℕ) → at < length buffer → Wrote 1 (byte ∷ []) buffer at (set buffer at byte) (at + 1)
+-- a string is written, copied over the part of the buffer that it fills
+pub wrote_copied : (buffer : List ℕ) (at : ℕ) (bytes copied : List ℕ) → copied ≡ bytes → at + length bytes ≤ length buffer
+    → Wrote (length bytes) bytes buffer at (put_mid at (at + length bytes - at) buffer copied) (at + length bytes)
 unfolding placed
-wrote_byte buffer at byte h =
+wrote_copied buffer at bytes copied same h =
+    let long : at + length bytes - at ≡ length bytes = omega arith in
     record {
-      written = rw (add-one, append_assoc) (set_split buffer at byte h);
+      written =
+          rw (same, long) (ap (λ (l : List ℕ). take at buffer ++ (bytes ++ l)) (drop-drop (length bytes) at buffer)
+          ∙ sym (append_assoc (take at buffer) bytes (drop (at + length bytes) buffer)));
       behind = refl;
       few = omega arith;
-      inside = omega arith;
+      inside = h;
     }
 
 -- one string is written, and another behind it
@@ -89,44 +94,46 @@ wrote_then {x} {y} {before} {middle} {at} {next} first second =
       inside = omega (arith, second.inside, first.behind, same, length-append x y);
     }
 
+-- what was written, put on a page
+pub puts : {most : ℕ} {bytes : List ℕ} {before after : Page} → after.buffer.ghost_name ≡ before.buffer.ghost_name
+    → Wrote most bytes before.buffer.now before.at after.buffer.now after.at
+    → Puts most bytes before after
+puts same w = record { same_buffer = same; same_length = wrote_length w; wrote = w }
+
+-- nothing is put on it
+pub puts_none : (page : Page) → page.at ≤ length page.buffer.now → Puts 0 [] page page
+puts_none page h = puts refl (wrote_none page.buffer.now page.at h)
+
+-- one string is put on it, and another behind it
+pub puts_then : {m n : ℕ} {x y : List ℕ} {before middle after : Page} → Puts m x before middle → Puts n y middle after
+    → Puts (m + n) (x ++ y) before after
+puts_then first second =
+    puts (second.same_buffer ∙ first.same_buffer) (wrote_then first.wrote second.wrote)
+
 -- at most so many bytes are at most more, and equal bytes are the same bytes
-pub wrote_few : {m : ℕ} {bytes before after : List ℕ} {at end : ℕ} (n : ℕ) → length bytes ≤ n
-    → Wrote m bytes before at after end → Wrote n bytes before at after end
-wrote_few n h w = record { written = w.written; behind = w.behind; few = h; inside = w.inside }
+pub puts_few : {m : ℕ} {bytes : List ℕ} {before after : Page} (n : ℕ) → length bytes ≤ n → Puts m bytes before after
+    → Puts n bytes before after
+puts_few n h p =
+    let w = p.wrote in
+    puts p.same_buffer (record { written = w.written; behind = w.behind; few = h; inside = w.inside })
 
-pub wrote_as : {m : ℕ} {bytes same before after : List ℕ} {at end : ℕ} → bytes ≡ same
-    → Wrote m bytes before at after end → Wrote m same before at after end
-wrote_as {m} {before} {after} {at} {end} e w = subst (λ (l : List ℕ). Wrote m l before at after end) e w
+pub puts_at_most : {m : ℕ} {bytes : List ℕ} {before after : Page} (n : ℕ) → m ≤ n → Puts m bytes before after
+    → Puts n bytes before after
+puts_at_most n h p = puts_few n (omega (arith, p.wrote.few)) p
 
--- a text written from the buffer's front on
-pub wrote_all : {m : ℕ} {text before after : List ℕ} {end : ℕ} → m ≤ 131072 → Wrote m text before 0 after end
-    → Printed text before after end
+pub puts_as : {m : ℕ} {bytes same : List ℕ} {before after : Page} → bytes ≡ same → Puts m bytes before after
+    → Puts m same before after
+puts_as {m} {before} {after} e p = subst (λ (l : List ℕ). Puts m l before after) e p
+
+-- a text put on a page from the buffer's front on
+pub puts_all : {m : ℕ} {text : List ℕ} {before after : Page} → m ≤ 131072 → before.at ≡ 0 → Puts m text before after
+    → Printed text before.buffer.now after.buffer.now after.at
 unfolding placed over
-wrote_all {text} {before} h w =
+puts_all {text} {before} h front p =
+    let w = p.wrote in
     record {
-      written = rw zero-add at w.written;
+      written = rw (front, zero-add) at w.written;
       how_long = omega (arith, w.behind);
       few = omega (arith, w.few);
       fits = omega (arith, w.inside);
     }
-
--- a string is written byte by byte: with i bytes behind, those are written
-module _ (bytes before : List ℕ) (at i : ℕ) (out : List ℕ) (to : ℕ) (room : at + length bytes ≤ length before)
-    (so_far : Wrote i (take i bytes) before at out to) where
-  pub copied_room : i < length bytes → to < length out
-  copied_room h = omega (arith, so_far.behind, wrote_length so_far, length-take-le i bytes (omega arith))
-
-  pub copied_next : i < length bytes → Wrote (i + 1) (take (i + 1) bytes) before at (set out to (get_or bytes i 0)) (to + 1)
-  copied_next h =
-      wrote_as (rw add-one (sym (take-suc bytes i 0 h))) (wrote_then so_far (wrote_byte out to (get_or bytes i 0) (copied_room h)))
-
-  pub copied_all : length bytes ≤ i → Wrote (length bytes) bytes before at out to
-  copied_all h = wrote_few (length bytes) (omega arith) (wrote_as (take_all i bytes h) so_far)
-
--- a part of a string, from a place on
-pub wrote_part : (bytes : List ℕ) (from long : ℕ) {m : ℕ} {before after : List ℕ} {at end : ℕ}
-    → Wrote m (take (from + long - from) (drop from bytes)) before at after end
-    → Wrote long (take long (drop from bytes)) before at after end
-wrote_part bytes from long w =
-    let as_long : from + long - from ≡ long = omega arith in
-    wrote_few long (omega (arith, length-take long (drop from bytes))) (rw as_long at w)

@@ -1,71 +1,60 @@
 // How many keys of a token are known, and their lines.
-ghost use Rattle.std.specs.Prelude.{◌+◌, ◌≤◌, ◌∷◌, [], ◌++◌, length};
+ghost use Rattle.std.specs.Prelude.{◌≡◌, ◌≤◌, ◌∷◌, [], ◌++◌, length};
 ghost use Rattle.token.specs.Known.{marked_keys};
 ghost use Rattle.text.specs.Text.{known_line, key_line};
 ghost use Rattle.text.specs.Printing.{own_word, marked_line, marked_lines};
-ghost use Rattle.text.specs.Writing.{Wrote};
+ghost use Rattle.text.specs.Writing.{HasRoom, Puts};
 
-use crate::append::{write_bytes, write_told};
+use crate::append::Page;
 use shapes::Entry;
 use shapes::entries::key_of;
 use token::known::{is_known, known_count};
 use token::{Table, Token};
 
-// Where a key comes from, and a line feed.
-fn write_origin(own: bool, at: usize, out: &mut [u8]) -> usize
-    requires { at + 10 ≤ length out.old }
-    ensures { Wrote 10 (own_word own ++ 10 ∷ []) out.old at out.new result }
+// The word for where a key comes from.
+#[tactic(auto, unfolding(crate::specs::Printing::own_word, crate::specs::Text::word))]
+fn name_of_origin(own: bool) -> &'static [u8]
+    ensures name { result.now ≡ own_word own }
+    ensures short { length result.now ≤ 9 }
 {
-    if own {
-        return write_bytes(b"own\n", at, out);
-    }
-    write_bytes(b"generated\n", at, out)
+    if own { b"own" } else { b"generated" }
 }
 
 // A key's line: its number, and where it comes from.
-fn write_key(k: u16, own: bool, at: usize, out: &mut [u8]) -> usize
-    requires { at + 20 ≤ length out.old }
-    ensures { Wrote 20 (key_line k (own_word own)) out.old at out.new result }
+fn write_key(k: u16, own: bool, page: &mut Page)
+    requires { HasRoom 20 page.old }
+    ensures { Puts 20 (key_line k (own_word own)) page.old page.new }
 {
-    let a = write_told(b"key ", k, 32, at, out);
-    write_origin(own, a, out)
+    page.told(b"key", k, b' ');
+    page.word(name_of_origin(own), b'\n');
 }
 
 // The line of one entry: a known key's; any other entry has none.
-fn write_entry(entry: Entry, at: usize, out: &mut [u8]) -> usize
-    requires { at + 20 ≤ length out.old }
-    ensures { Wrote 20 (marked_line entry) out.old at out.new result }
+fn write_entry(entry: Entry, page: &mut Page)
+    requires { HasRoom 20 page.old }
+    ensures { Puts 20 (marked_line entry) page.old page.new }
 {
     if is_known(entry) {
-        let marks = entry.marks;
-        return write_key(key_of(entry).0, marks.own, at, out);
+        write_key(key_of(entry).0, entry.marks.own, page);
     }
-    at
 }
 
 // The lines of the known keys.
-fn write_keys(table: Table, at: usize, out: &mut [u8]) -> usize
-    requires { at + 20480 ≤ length out.old }
-    ensures { Wrote 20480 (marked_lines table.entries) out.old at out.new result }
+fn write_keys(entries: &[Entry; 1024], page: &mut Page)
+    requires { HasRoom 20480 page.old }
+    ensures { Puts 20480 (marked_lines entries.now) page.old page.new }
 {
-    let mut i: usize = 0;
-    let mut to = at;
-    while i < 1024 {
-        let entry = table.entries[i];
-        to = write_entry(entry, to, out);
-        i += 1;
+    for entry in entries {
+        write_entry(*entry, page);
     }
-    to
 }
 
 // How many keys are known, and their lines.
-pub fn write_known_keys(token: Token, at: usize, out: &mut [u8]) -> usize
-    requires { at + 20492 ≤ length out.old }
-    ensures { Wrote 20492 (known_line (length (marked_keys token.table.entries)) ++ marked_lines token.table.entries)
-        out.old at out.new result }
+pub fn write_known_keys(token: Token, page: &mut Page)
+    requires { HasRoom 20492 page.old }
+    ensures { Puts 20492 (known_line (length (marked_keys token.table.entries)) ++ marked_lines token.table.entries)
+        page.old page.new }
 {
-    let count = known_count(token);
-    let a = write_told(b"known ", count, 10, at, out);
-    let table = token.table;
-    write_keys(table, a, out)
+    page.told(b"known", known_count(token), b'\n');
+    write_keys(&token.table.entries, page);
 }

@@ -1,10 +1,7 @@
--- `tally_of` meets its contract: with i records behind, those are counted (Counts).
-use Prim.Native.Nat.{◌-◌}
-use Rattle.text.proofs.Counts.{Tallied}
+-- With i records behind, those are counted (Counts).
+use mathlib.Core.Path.{◌≡◌}
+use Rattle.text.specs.Printing.{tally_of, as_counts}
 use Rattle.text.proofs.counting.tally_of.Given as goal
 
 abbrev pub invariant-loop-i : goal.invariant-loop-i
-invariant-loop-i l = Tallied l.records l.n l.i l.t
-
-abbrev pub decreases-loop-i : goal.decreases-loop-i
-decreases-loop-i l = l.n - l.i
+invariant-loop-i l = l.tally ≡ as_counts (tally_of l.records l.i)

@@ -1,8 +1,9 @@
--- `write_key` meets its contract, word by word (WordByWord).
+-- Word by word (WordByWord).
 use Rattle.text.specs.Text.{word, key_line}
-use Rattle.text.proofs.WordByWord.{wrote_told, wrote_end}
+use Rattle.text.proofs.WordByWord.{puts_told, puts_name, puts_end}
 use Rattle.text.proofs.keys.write_key.Goals as goal
 
 pub returns : goal.returns
 unfolding key_line word
-returns c = wrote_told _ _ _ _ c.write_told-a.ensures (wrote_end _ c.write_origin.ensures)
+returns c = puts_told _ _ _ _ c.told.ensures
+    (puts_end _ (puts_name 9 _ c.name_of_origin.ensures.name c.name_of_origin.ensures.short c.word.ensures))

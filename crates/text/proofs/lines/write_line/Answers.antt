@@ -1,16 +1,16 @@
--- `write_line` meets its contract, word by word (WordByWord): the answer is a byte, so it has at most three digits.
+-- Word by word (WordByWord): the answer is a byte, so it has at most three digits.
 use native.Mathlib.Omega.{arith}
 use Rattle.text.specs.Text.{command_line}
-use Rattle.text.proofs.WordByWord.{wrote_next, wrote_end, wrote_answer}
+use Rattle.text.proofs.WordByWord.{puts_next, puts_name, puts_end, puts_answer}
 use Rattle.text.proofs.lines.write_line.Goals as goal
 
-pub write_number-requires : goal.write_number-requires
-write_number-requires c = let third = wrote_answer c.args.answer 32 c.ranges.answer.fits c.write_number-c.ensures in
-    omega (arith, third, c.write_name-b.ensures, c.write_number-a.ensures, c.requires)
+pub number-requires-3 : goal.number-requires-3
+number-requires-3 c = let said = puts_answer c.args.answer 32 c.from.ensures c.ranges.answer.fits c.number-2.ensures in
+    omega (arith, said, c.word.ensures, c.number.ensures, c.name_of_command.ensures.short, c.requires)
 
 pub returns : goal.returns
 unfolding command_line
-returns c = wrote_next _ _ _ c.write_number-a.ensures
-    (wrote_next _ _ _ c.write_name-b.ensures
-    (wrote_next _ _ _ (wrote_answer _ _ c.ranges.answer.fits c.write_number-c.ensures)
-    (wrote_end _ c.write_number.ensures)))
+returns c = puts_next _ _ _ c.number.ensures
+    (puts_next _ _ _ (puts_name 8 _ c.name_of_command.ensures.name c.name_of_command.ensures.short c.word.ensures)
+    (puts_next _ _ _ (puts_answer _ _ c.from.ensures c.ranges.answer.fits c.number-2.ensures)
+    (puts_end _ c.number-3.ensures)))

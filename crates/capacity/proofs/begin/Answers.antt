@@ -1,12 +1,9 @@
 -- `capacity::begin` meets its contract: a fresh token comes from a fresh one by no calls. Rests on running's Going.
-use mathlib.Core.Path.{sym, subst}
 use Rattle.rules.specs.Templates.{plain}
 use Rattle.sheets.specs.Sheets.{policy_number}
-use Rattle.token.specs.declared.Token.{Token}
-use Rattle.running.specs.Direct.{Reached}
 use Rattle.running.proofs.Going.{reached_fresh}
 use Rattle.capacity.proofs.begin.Goals as goal
 
 pub returns : goal.returns
 unfolding policy_number
-returns c = subst (λ (t : Token). Reached t 0) (sym c.fresh.ensures) (reached_fresh plain)
+returns c = rw c.fresh.ensures (reached_fresh plain)

@@ -7,17 +7,10 @@ ghost use Rattle.std.specs.Prelude.{IfOk};
 ghost use Rattle.running.specs.Direct.{Reached};
 
 use std::io;
-use token::Token;
+use token::{Token, fresh};
 
 // A command, by its number and its body.
 type Command<'a> = (u8, &'a [u8]);
-
-// A fresh token, to call under the plain policy.
-fn begin() -> Token
-    ensures { Reached result 0 }
-{
-    token::fresh()
-}
 
 // One command, so many times, from the token that the calls before it left.
 fn repeat<R: Print>(rt: &R, token: Token, times: u16, command: Command) -> io::Result<Token>
@@ -36,7 +29,7 @@ fn repeat<R: Print>(rt: &R, token: Token, times: u16, command: Command) -> io::R
 
 // All commands of an exercise, each so many times, one after the other from a fresh token.
 fn exercise<R: Print>(rt: &R, commands: &[(u16, Command)]) -> io::Result<()> {
-    let mut token = begin();
+    let mut token = fresh();
     for (times, command) in commands {
         token = repeat(rt, token, *times, *command)?;
     }

@@ -5,12 +5,11 @@
 #![tactic(auto)]
 
 ghost use Rattle.std.specs.Prelude.{◌≤◌, length, IfOk, IfSome};
-ghost use Rattle.running.specs.Direct.{Reached};
 
 use arrayvec::ArrayVec;
 use std::io;
 use std::io::{Read, Write};
-use token::Token;
+use token::fresh;
 
 // A call as the input asks for it, and the input behind it.
 #[derive(Clone, Copy)]
@@ -18,13 +17,6 @@ struct Asked<'a> {
     number: u8,
     body: &'a [u8],
     behind: &'a [u8],
-}
-
-// A fresh token, to call under this policy.
-fn begin(policy: u8) -> Token
-    ensures { Reached result policy }
-{
-    token::fresh()
 }
 
 // The call at the front of the input, where it is wholly there.
@@ -49,7 +41,7 @@ fn sequence<'a, W: Write>(
 ) -> io::Result<Option<&'a [u8]>>
     ensures { IfOk result (λ left. IfSome left (λ behind. length behind.now ≤ length input.entry.now)) }
 {
-    let mut now = begin(policy);
+    let mut now = fresh();
     let mut rest = input;
     for _ in 0..count {
         let Some(call) = next_call(rest) else {

@@ -2,7 +2,11 @@
 -- Going.
 use native.Mathlib.Omega.{arith}
 use Rattle.running.proofs.Going.{reached_again}
+use Rattle.direct.proofs.Begun.{reached_begun}
 use Rattle.direct.proofs.sequence.Goals as goal
+
+pub loop-init : goal.loop-init
+loop-init g c = record { comes = rw c.fresh-now.ensures (reached_begun _); shorter = omega arith }
 
 pub loop-preserved : goal.loop-preserved
 loop-preserved g c =

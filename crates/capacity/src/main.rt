@@ -7,45 +7,48 @@ ghost use Rattle.std.specs.Prelude.{IfOk};
 ghost use Rattle.running.specs.Direct.{Reached};
 
 use std::io;
-use token::Token;
+use token::{Token, fresh};
 
-fn say<R: Print>(rt: &R, number: u8, answer: u8, value: u16) -> io::Result<()> {
-    println!(rt; "{number} {answer} {value}")
-}
+// A command, by its number and its body.
+type Command<'a> = (u8, &'a [u8]);
 
-// One command, so many times.
-fn repeat<R: Print>(rt: &R, token: Token, times: u16, number: u8, body: &[u8]) -> io::Result<Token>
+// One command, so many times, from the token that the calls before it left.
+fn repeat<R: Print>(rt: &R, token: Token, times: u16, command: Command) -> io::Result<Token>
     requires { Reached token 0 }
     ensures { IfOk result (λ now. Reached now 0) }
 {
+    let (number, body) = command;
     let mut now = token;
-    let mut i: u16 = 0;
-    while i < times {
+    for _ in 0..times {
         let called = running::call(now, 0, number, body);
-        say(rt, number, called.answer, called.value)?;
+        println!(rt; "{number} {} {}", called.answer, called.value)?;
         now = called.token;
-        i += 1;
     }
     Ok(now)
 }
 
-// A fresh token, to call under the plain policy.
-fn begin() -> Token
-    ensures { Reached result 0 }
-{
-    token::fresh()
+// All commands of an exercise, each so many times, one after the other from a fresh token.
+fn exercise<R: Print>(rt: &R, commands: &[(u16, Command)]) -> io::Result<()> {
+    let mut token = fresh();
+    for (times, command) in commands {
+        token = repeat(rt, token, *times, *command)?;
+    }
+    Ok(())
 }
 
 fn main(rt: HostRuntime) -> io::Result<()> {
-    let flags = [28u8];
-    let none = [0u8; 0];
-    let key_and_item = [0u8, 0, 0, 1];
-    repeat(&rt, begin(), 257, 1, &flags)?;
-    let with_key = repeat(&rt, begin(), 1, 8, &none)?;
-    let with_item = repeat(&rt, with_key, 1, 9, &none)?;
-    let with_seal = repeat(&rt, with_item, 1, 10, &key_and_item)?;
-    let filled = repeat(&rt, with_seal, 1021, 9, &none)?;
-    let still = repeat(&rt, filled, 1, 9, &none)?;
-    repeat(&rt, still, 1, 10, &key_and_item)?;
-    Ok(())
+    let generate: Command = (1, &[28]);
+    let own_key: Command = (8, &[]);
+    let own_data: Command = (9, &[]);
+    let seal: Command = (10, &[0, 0, 0, 1]);
+    exercise(&rt, &[(257, generate)])?;
+    let filling = [
+        (1, own_key),
+        (1, own_data),
+        (1, seal),
+        (1021, own_data),
+        (1, own_data),
+        (1, seal),
+    ];
+    exercise(&rt, &filling)
 }

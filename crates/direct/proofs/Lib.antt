@@ -1,3 +1,2 @@
--- A fresh token under any policy; what holds between two calls.
+-- A fresh token under any policy.
 pub mod Begun
-pub mod Between

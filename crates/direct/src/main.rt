@@ -4,120 +4,73 @@
 // bytes. Where the input is cut off the work ends, and what was answered before is written.
 #![tactic(auto)]
 
-ghost use Rattle.std.specs.Prelude.{◌+◌, ◌≤◌, ◌≡◌, length, IfOk};
-ghost use Rattle.running.specs.Direct.{Reached};
-ghost use Rattle.direct.specs.Progress.{Room, Underway, IsPrefixLen};
+ghost use Rattle.std.specs.Prelude.{◌≤◌, length, IfOk, IfSome};
 
+use arrayvec::ArrayVec;
 use std::io;
 use std::io::{Read, Write};
-use token::Token;
+use token::fresh;
 
-// How many bytes of the input are used up, and how many of the output are written.
+// A call as the input asks for it, and the input behind it.
 #[derive(Clone, Copy)]
-struct Progress {
-    read: usize,
-    written: usize,
+struct Asked<'a> {
+    number: u8,
+    body: &'a [u8],
+    behind: &'a [u8],
 }
 
-// A fresh token, to call under this policy.
-fn begin(policy: u8) -> Token
-    ensures { Reached result policy }
+// The call at the front of the input, where it is wholly there.
+fn next_call<'a>(input: &'a [u8]) -> Option<Asked<'a>>
+    ensures { IfSome result (λ call. length call.behind.now ≤ length input.entry.now) }
 {
-    token::fresh()
+    let ([number, long], rest) = input.split_first_chunk::<2>()?;
+    let (body, behind) = rest.split_at_checked(*long as usize)?;
+    Some(Asked {
+        number: *number,
+        body,
+        behind,
+    })
 }
 
-// A number of two bytes, the high one first.
-fn two(high: u8, low: u8) -> u16 {
-    (high as u16) * 256 + (low as u16)
-}
-
-// What one call answered, at its place in the output.
-fn put(out: &mut [u8], at: usize, answer: u8, value: u16)
-    requires { at + 3 ≤ length out.old }
-    ensures { length out.new ≡ length out.old }
+// The calls of one sequence, one after the other from a fresh token; gives the input behind them, none where it is cut off.
+fn sequence<'a, W: Write>(
+    policy: u8,
+    count: u16,
+    input: &'a [u8],
+    out: &mut W,
+) -> io::Result<Option<&'a [u8]>>
+    ensures { IfOk result (λ left. IfSome left (λ behind. length behind.now ≤ length input.entry.now)) }
 {
-    out[at] = answer;
-    out[at + 1] = (value / 256) as u8;
-    out[at + 2] = (value % 256) as u8;
-}
-
-// The calls of one sequence, one after the other from a fresh token.
-fn sequence(input: &[u8], start: Progress, policy: u8, count: u16, out: &mut [u8]) -> Progress
-    requires room { Room (length input.now) (length out.old) }
-    requires underway { Underway (length input.now) start }
-    ensures underway_2 { Underway (length input.now) result }
-    ensures read_le_read { start.read ≤ result.read }
-{
-    let mut now = begin(policy);
-    let mut read = start.read;
-    let mut written = start.written;
-    let mut left = count;
-    while 0 < left {
-        if input.len() - read < 2 {
-            return Progress {
-                read: input.len(),
-                written,
-            };
-        }
-        let number = input[read];
-        let body = read + 2;
-        let end = body + input[read + 1] as usize;
-        if input.len() < end {
-            return Progress {
-                read: input.len(),
-                written,
-            };
-        }
-        let called = running::call(now, policy, number, &input[body..end]);
-        put(out, written, called.answer, called.value);
-        now = called.token;
-        read = end;
-        written += 3;
-        left -= 1;
-    }
-    Progress { read, written }
-}
-
-// All sequences; gives how many bytes were written.
-fn sequences(input: &[u8], out: &mut [u8]) -> usize
-    requires { Room (length input.now) (length out.old) }
-    ensures { IsPrefixLen result out.new }
-{
-    let mut read: usize = 0;
-    let mut written: usize = 0;
-    while 3 <= input.len() - read {
-        let policy = input[read];
-        let count = two(input[read + 1], input[read + 2]);
-        let start = Progress {
-            read: read + 3,
-            written,
+    let mut now = fresh();
+    let mut rest = input;
+    for _ in 0..count {
+        let Some(call) = next_call(rest) else {
+            return Ok(None);
         };
-        let next = sequence(input, start, policy, count, out);
-        read = next.read;
-        written = next.written;
+        let called = running::call(now, policy, call.number, call.body);
+        let [high, low] = called.value.to_be_bytes();
+        out.write_all(&[called.answer, high, low])?;
+        now = called.token;
+        rest = call.behind;
     }
-    written
+    Ok(Some(rest))
 }
 
-// Reads until the bytes are full or the input ends, and gives how many there are.
-fn read_full<R: Read + Drop>(mut input: R, bytes: &mut [u8]) -> io::Result<usize>
-    ensures { IfOk result (λ n. n ≤ length bytes.new) }
-{
-    let mut n: usize = 0;
-    while n < bytes.len() {
-        let more = input.read(&mut bytes[n..])?;
-        if more == 0 {
-            return Ok(n);
-        }
-        n += more;
+// All sequences, to the end of the input or to where it is cut off.
+fn sequences<W: Write>(input: &[u8], out: &mut W) -> io::Result<()> {
+    let mut rest = input;
+    while let [policy, high, low, calls @ ..] = rest {
+        let count = u16::from_be_bytes([*high, *low]);
+        let Some(behind) = sequence(*policy, count, calls, out)? else {
+            return Ok(());
+        };
+        rest = behind;
     }
-    Ok(n)
+    Ok(())
 }
 
 fn main(rt: HostRuntime) -> io::Result<()> {
-    let mut space = [0u8; 65536];
-    let n = read_full(rt.stdin(), &mut space)?;
-    let mut out = [0u8; 98304];
-    let long = sequences(&space[..n], &mut out);
-    io::writer(&rt).write_all(&out[..long])
+    let mut input = ArrayVec::<u8, 65536>::new();
+    io::copy(&mut rt.stdin().take(65536), &mut input)?;
+    sequences(&input, &mut io::writer(&rt))
 }

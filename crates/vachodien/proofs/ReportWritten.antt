@@ -3,10 +3,11 @@ use Prim.Native.Nat.{ℕ, suc, ◌+◌, ◌*◌, ◌-◌, ◌/◌, ◌%◌, ◌�
 use native.Mathlib.Omega.{arith}
 use mathlib.Core.Path.{◌≡◌, refl, sym, ap, ◌∙◌}
 use mathlib.Core.Bool.{Bool, true, false, cond, ◌&&◌}
-use mathlib.Core.List.{List, [], ◌∷◌, ◌++◌}
+use mathlib.Core.List.{List, [], ◌∷◌, ◌++◌, append_assoc}
 use lib.Dec.{leb}
-use lib.ListN.{length, get_or, take, drop, set, length-append}
-use lib.Seq.{length-take-le, get_or-take, paste}
+use lib.ListN.{length, take, drop, length-append}
+use lib.Seq.{length-take-le, take_at, drop_at, drop-drop}
+use borrow.Rule.Slice.PartMut.{put_mid}
 use borrow.Author.Tests.{le-leb, lt-leb}
 use Rattle.sheets.specs.Bytes.{two}
 use Rattle.sheets.specs.Reports.{keys_bytes}
@@ -16,11 +17,11 @@ use Rattle.sheets.proofs.Reports.{report_length}
 use Rattle.shapes.specs.declared.Entry.{Entry}
 use Rattle.shapes.specs.Entries.{is_key_kind, is_held}
 use Rattle.sheets.proofs.Calls.{over_length}
-use Rattle.writer.proofs.Over.{lent_length, over_lent, copied_next, copied_length, copied_all}
+use Rattle.writer.proofs.Over.{lent_length, over_lent}
 use Rattle.token.specs.declared.Token.{Token}
 use Rattle.token.specs.declared.Listed.{Listed}
 use Rattle.token.specs.Known.{marked_keys, ListedInto, written_as}
-use Rattle.vachodien.specs.declared.Reported.TheVariants.{Report, Short}
+use Rattle.std.specs.Prelude.{Ok, Err}
 use Rattle.vachodien.specs.Replied.{left_report, ReportedInto}
 
 -- two bytes a key
@@ -39,36 +40,31 @@ unfolding marked_keys
 marked_few [] = omega arith
 marked_few (e ∷ entries) = marked_next e entries (is_key_kind e.term && is_held e) _ (marked_few entries)
 
--- four bytes
-pub over_counts : (n m : ℕ) (out : List ℕ) → 4 ≤ length out
-    → set (set (set (set out 0 (n / 256)) 1 (n % 256)) 2 (m / 256)) 3 (m % 256) ≡ over (two n ++ two m) out
+-- a number's bytes, as std says them
+two_bytes : (n : ℕ) → n < 65536 → n / 256 % 256 ∷ n % 256 ∷ [] ≡ two n
+unfolding two
+two_bytes n h = let high : n / 256 % 256 ≡ n / 256 = omega arith in rw high refl
+
+-- w stands over the front of a buffer, and e was copied in behind w: now w and e stand there
+over_copied : (w e before out : List ℕ) (at : ℕ) → length w ≡ at → out ≡ over w before
+    → put_mid at (length e) out e ≡ over (w ++ e) before
+unfolding over
+over_copied w e before out at long written =
+    let front : take at out ≡ w = ap (take at) written ∙ take_at w _ at long in
+    let rest : drop at out ≡ drop at before =
+    ap (drop at) written ∙ drop_at w _ at long ∙ ap (λ (k : ℕ). drop k before) long in
+    let both : at + length e ≡ length (w ++ e) = omega (arith, length-append w e) in
+    rw (front, rest, drop-drop, both) (sym (append_assoc w e (drop (length (w ++ e)) before)))
+
+-- two numbers at the front
+pub over_counts : (n m : ℕ) (out first second : List ℕ) → n < 65536 → m < 65536 → first ≡ n / 256 % 256 ∷ n % 256 ∷ []
+    → second ≡ m / 256 % 256 ∷ m % 256 ∷ []
+    → put_mid 2 2 (first ++ drop 2 out) second ≡ over (two n ++ two m) out
 unfolding over two
-over_counts n m [] h = absurd (omega arith)
-over_counts n m (a ∷ []) h = absurd (omega arith)
-over_counts n m (a ∷ b ∷ []) h = absurd (omega arith)
-over_counts n m (a ∷ b ∷ c ∷ []) h = absurd (omega arith)
-over_counts n m (a ∷ b ∷ c ∷ d ∷ out) h = refl
-
--- the first bytes of the records, copied one by one
-module _ (records before : List ℕ) (long : ℕ) (whole : long ≤ length records) (room : long ≤ length before) where
-  taken : length (take long records) ≡ long
-  taken = length-take-le long records whole
-
-  fits : length (take long records) ≤ length before
-  fits = omega (arith, taken, room)
-
-  pub copy_next : (i : ℕ) (out : List ℕ) → i < long → out ≡ paste before 0 (take long records) i
-      → set out i (get_or records i 0) ≡ paste before 0 (take long records) (i + 1)
-  copy_next i out h e =
-      ap (set out i) (sym (get_or-take long records i 0 h))
-      ∙ copied_next (take long records) before out i fits (rw taken h) e
-
-  pub copy_length : (i : ℕ) (out : List ℕ) → i ≤ long → out ≡ paste before 0 (take long records) i → length out ≡ length before
-  copy_length i out h e = copied_length (take long records) before out i fits (rw taken h) e
-
-  pub copy_all : (i : ℕ) (out : List ℕ) → i ≤ long → long ≤ i → out ≡ paste before 0 (take long records) i
-      → out ≡ over (take long records) before
-  copy_all i out h h' e = copied_all (take long records) before out i (rw taken h) (rw taken h') e
+over_counts n m out first second n_small m_small e e' =
+    let first_is : first ≡ two n = e ∙ two_bytes n n_small in
+    let second_is : second ≡ two m = e' ∙ two_bytes m m_small in
+    rw (first_is, second_is) (over_copied (two n) (two m) out (over (two n) out) 2 refl refl)
 
 module _ (n : ℕ) (records : List ℕ) (t : Token) (room : 3 * n ≤ length records) where
   counts_long : length (two n ++ two (length (marked_keys t.table.entries))) ≡ 4
@@ -93,7 +89,7 @@ module _ (n : ℕ) (records : List ℕ) (t : Token) (room : 3 * n ≤ length rec
 
   -- where the buffer is too short
   pub report_short : (before : List ℕ) (m : ℕ) → m ≡ length (marked_keys t.table.entries) → length before < 4 + 3 * n + 2 * m
-      → ReportedInto n records t before before Short
+      → ReportedInto n records t before before (Err (record {}))
   report_short before m e h =
       let long : length before < length (left_report n records t) = omega (arith, left_length, e) in
       let no_room : leb (length (left_report n records t)) (length before) ≡ false =
@@ -105,18 +101,21 @@ module _ (n : ℕ) (records : List ℕ) (t : Token) (room : 3 * n ≤ length rec
       → (first : List ℕ)
       → first ≡ over (two n ++ two m) before
       → (back : List ℕ)
-      → back ≡ over (take (3 * n) records) (take (length first - 4) (drop 4 first))
+      → back ≡ take (4 + 3 * n - 4) records
       → (second : List ℕ)
-      → second ≡ take 4 first ++ (back ++ drop (length first - 4) (drop 4 first))
+      → second ≡ put_mid 4 (4 + 3 * n - 4) first back
       → (list : List ℕ) (listed : Listed)
       → ListedInto (marked_keys t.table.entries) (take (length second - (4 + 3 * n)) (drop (4 + 3 * n) second)) list listed
       → ReportedInto n records t before (take (4 + 3 * n) second ++ (list ++ drop (length second - (4 + 3 * n)) (drop (4 + 3 * n) second)))
-      (Report (4 + 3 * n + 2 * m))
+      (Ok (4 + 3 * n + 2 * m))
   unfolding left_report
   report_whole before m e h first e1 back e2 second e3 list listed e4 =
       let counts : first ≡ over (two n ++ two (length known)) before = e1 ∙ ap (λ (k : ℕ). over (two n ++ two k) before) e in
+      let three : 4 + 3 * n - 4 ≡ 3 * n = omega arith in
+      let back_is : back ≡ take (3 * n) records = rw three at e2 in
+      let k_is : 4 + 3 * n - 4 ≡ length back = omega (arith, ap length back_is, records_long) in
       let after_records : second ≡ over front before =
-      e3 ∙ over_lent (two n ++ two (length known)) (take (3 * n) records) before 4 first back counts_long counts e2 in
+      e3 ∙ ap (λ (k : ℕ). put_mid 4 k first back) k_is ∙ ap (λ (e : List ℕ). put_mid 4 (length e) first e) back_is ∙ over_copied (two n ++ two (length known)) (take (3 * n) records) before first 4 counts_long counts in
       let same_long : length second ≡ length before =
       ap length after_records ∙ over_length front before (omega (arith, front_long, h)) in
       let lent = take (length second - (4 + 3 * n)) (drop (4 + 3 * n) second) in
@@ -128,4 +127,4 @@ module _ (n : ℕ) (records : List ℕ) (t : Token) (room : 3 * n ≤ length rec
       let has_room : leb (length (left_report n records t)) (length before) ≡ true =
       le-leb (length (left_report n records t)) (length before) long in
       let how_long : 4 + 3 * n + 2 * m ≡ length (left_report n records t) = omega (arith, left_length, e) in
-      record { answered = rw has_room (ap Report how_long); written = rw has_room whole }
+      record { answered = rw has_room (ap Ok how_long); written = rw has_room whole }

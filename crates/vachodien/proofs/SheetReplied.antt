@@ -1,10 +1,11 @@
 -- The reply to a sheet, of what a run leaves of it: a malformed sheet is answered with its place, a good one with the report of its
 -- run. Rests on the token's KnownShown and on the sheets' Calls.
-use Prim.Native.Nat.{ℕ, ◌+◌, ◌*◌}
-use native.Mathlib.Omega.{arith}
+use Prim.Native.Nat.{ℕ, ◌*◌}
 use mathlib.Core.Path.{◌≡◌, refl, sym, ap, ◌∙◌}
 use mathlib.Core.Bool.{Bool, true, false}
 use mathlib.Core.List.{List, ◌++◌}
+use Rattle.std.specs.Prelude.{Result, Ok, Err}
+use Rattle.std.specs.Result.{IsErrAnd}
 use lib.Dec.{leb}
 use lib.ListN.{length, take}
 use Rattle.sheets.specs.Bytes.{two}
@@ -17,11 +18,13 @@ use Rattle.running.specs.declared.Ran.{Ran}
 use Rattle.token.specs.Known.{marked_keys}
 use Rattle.running.specs.Run.{RanSheet}
 use Rattle.running.proofs.RunTold.{fault_told, has_run, answers_counted, known_told}
-use Rattle.vachodien.specs.declared.Reported.{Reported}
-use Rattle.vachodien.specs.Replied.{CalledOn, left_report, reported_as, put_as, reported_number, ReportedInto}
+use Rattle.vachodien.specs.declared.Short.{Short}
+use Rattle.vachodien.specs.declared.CallError.{CallError}
+use Rattle.vachodien.specs.declared.CallError.TheVariants.{Malformed as MalformedAt, Short as NoRoom}
+use Rattle.vachodien.specs.Replied.{CalledOn, left_report, reported_as, put_as, reported_number, call_number, ReportedInto}
 
 -- the number for what was reported, and what the buffer holds
-into_is : (fits : Bool) (report before : List ℕ) (x : Reported) (after : List ℕ) (number : ℕ) → x ≡ reported_as fits (length report)
+into_is : (fits : Bool) (report before : List ℕ) (x : Result ℕ Short) (after : List ℕ) (number : ℕ) → x ≡ reported_as fits (length report)
     → after ≡ put_as fits report before
     → number ≡ reported_number x
     → report_into fits report before ≡ record { number = number; buffer = after }
@@ -29,15 +32,23 @@ unfolding report_into answer_number reported_number
 into_is true report before x after number a w e = rw (e, a, w) refl
 into_is false report before x after number a w e = rw (e, a, w) refl
 
+-- a report that found no room, as the call's own error
+pub no_room : (r : Result ℕ CallError) (x : Result ℕ Short) (short : Short) → IsErrAnd r (λ e. e ≡ NoRoom) → x ≡ Err short
+    → call_number r ≡ reported_number x
+unfolding call_number reported_number
+no_room (Ok given) x short h e = absurd h
+no_room (Err why) x short h e = rw (h, e) refl
+
 module _ {s start records : List ℕ} {r : Ran} (ran : RanSheet s start records r) where
   -- a malformed sheet
-  pub malformed_called : {place : ℕ} → r.checked ≡ Malformed place → (before : List ℕ) → CalledOn s before before (786432 + place)
-  unfolding call answer_number
+  pub malformed_called : {place : ℕ} → r.checked ≡ Malformed place → (before : List ℕ)
+      → CalledOn s before before (call_number (Err (MalformedAt place)))
+  unfolding call call_number
   malformed_called {place} e before =
       record {
         the_reply = malformed place;
         replies = is_malformed (fault_told ran e);
-        is = ap (λ (n : ℕ). record { number = n; buffer = before }) {x = 12 * 65536 + place} {y = 786432 + place} (omega arith);
+        is = refl;
       }
 
   -- a good one: what was said, and the state at the end
@@ -54,7 +65,7 @@ module _ {s start records : List ℕ} {r : Ran} (ran : RanSheet s start records 
         ap (λ (w : List ℕ). two n ++ two (length list) ++ w ++ keys_bytes list) front
         ∙ ap (λ (k : ℕ). two k ++ two (length list) ++ records_bytes (has_run ran e).said ++ keys_bytes list) (answers_counted ran e)
 
-    pub good_called : (before after : List ℕ) (x : Reported) → ReportedInto n records r.token before after x
+    pub good_called : (before after : List ℕ) (x : Result ℕ Short) → ReportedInto n records r.token before after x
         → (number : ℕ)
         → number ≡ reported_number x
         → CalledOn s before after number

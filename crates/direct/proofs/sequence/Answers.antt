@@ -1,16 +1,16 @@
--- `sequence` meets its contract: one call more leaves a token that may be called again, and has room for what it writes. Rests on
--- running's Going.
+-- `sequence` meets its contract: one call more leaves a token that may be called again, and no more of the input. Rests on running's
+-- Going.
 use native.Mathlib.Omega.{arith}
 use Rattle.running.proofs.Going.{reached_again}
+use Rattle.direct.proofs.Begun.{reached_begun}
 use Rattle.direct.proofs.sequence.Goals as goal
 
-pub loop-left-preserved : goal.loop-left-preserved
-loop-left-preserved c =
-    let so_far = c.loop-left.invariant in
+pub loop-init : goal.loop-init
+loop-init g c = record { comes = rw c.fresh-now.ensures (reached_begun _); shorter = omega arith }
+
+pub loop-preserved : goal.loop-preserved
+loop-preserved g c =
     record {
-      same_room = omega (arith, c.put.ensures, so_far.same_room);
-      forward = omega (arith, so_far.forward);
-      inside = omega (arith, c.if-input-end.false);
-      short = omega (arith, so_far.short);
-      comes = reached_again _ _ _ so_far.comes c.call-called.ensures;
+      comes = reached_again _ _ _ c.loop.invariant.comes c.call-called.ensures;
+      shorter = omega (arith, c.in-Some.ensures, c.loop.invariant.shorter);
     }

@@ -1,12 +1,12 @@
--- The loop's invariant: the token comes from a fresh one by earlier calls under the policy, and a call that is read takes two bytes of
--- the input at least for the three that it writes, so that these have room. The measure is the calls that are left.
+-- The loop's invariant: the token comes from a fresh one by earlier calls under the policy, and what is left of the input is no longer
+-- than what was handed in.
+use Prim.Native.Nat.{◌≤◌}
 use lib.ListN.{length}
-use Rattle.direct.proofs.Between.{BetweenCalls}
+use Rattle.running.specs.Direct.{Reached}
 use Rattle.direct.proofs.sequence.Given as goal
 
-abbrev pub invariant-loop-left : goal.invariant-loop-left
-invariant-loop-left l =
-    BetweenCalls (length l.input) (length l.initial.out) l.initial.read l.policy l.now (length l.out) l.read l.written
-
-abbrev pub decreases-loop-left : goal.decreases-loop-left
-decreases-loop-left l = l.left
+abbrev pub invariant-loop : goal.invariant-loop
+invariant-loop g l = record {
+  comes : Reached l.now l.policy;
+  shorter : length l.rest ≤ length l.fn.input;
+}

@@ -1,2 +1,0 @@
--- Why the output's buffer is never too short.
-pub mod Progress

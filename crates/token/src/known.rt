@@ -22,7 +22,7 @@ pub fn known_count(token: Token) -> u16
     ensures { result ≡ length (marked_keys token.table.entries) }
 {
     let entries = &token.table.entries;
-    entries.iter().filter(|entry| is_known(**entry)).count() as u16
+    entries.iter().map(|entry| u16::from(is_known(*entry))).sum()
 }
 
 // Writes the numbers of the known keys, two bytes each.

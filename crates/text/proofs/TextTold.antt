@@ -1,6 +1,7 @@
 -- The text of a sheet, of what running it leaves; that two results of writing it are equal, and that
 -- it lies inside the buffer. Rests on Printed and on the run's
 -- RunTold.
+use Rattle.std.specs.Prelude.{Err, Ok}
 use Prim.Native.Nat.{ℕ, ◌+◌, ◌*◌, ◌≤◌}
 use native.Mathlib.Omega.{arith}
 use mathlib.Core.Path.{◌≡◌, sym, ap, ◌∙◌}
@@ -10,7 +11,6 @@ use Rattle.sheets.specs.Sheets.{bodies_begin}
 use Rattle.sheets.specs.Calls.{over}
 use Rattle.sheets.proofs.Calls.{over_length}
 use Rattle.sheets.proofs.Faultless.{none_faultless}
-use Rattle.reader.specs.declared.Checked.TheVariants.{Good, Malformed}
 use Rattle.reader.proofs.GoodEntries.{checked_good}
 use Rattle.running.specs.declared.Ran.{Ran}
 use Rattle.running.specs.Run.{RanSheet}
@@ -21,13 +21,13 @@ use Rattle.text.specs.Writing.{Printed, TextWritten}
 use Rattle.text.proofs.Printed.{run_prints, prints_unique}
 
 module _ {s start records : List ℕ} {r : Ran} (ran : RanSheet s start records r) where
-  pub malformed_told : {place : ℕ} → r.checked ≡ Malformed place → {before after : List ℕ} {long : ℕ}
+  pub malformed_told : {place : ℕ} → r.checked ≡ Err (record { place = place }) → {before after : List ℕ} {long : ℕ}
       → Printed (malformed_text place) before after long
       → TextWritten s before after long
   malformed_told {place} e printed =
       record { the_text = malformed_text place; prints = is_malformed (fault_told ran e); printed = printed }
 
-  module _ {policy n : ℕ} (e : r.checked ≡ Good policy n) where
+  module _ {policy n : ℕ} (e : r.checked ≡ Ok (record { policy = policy; count = n })) where
     -- what writing the text of a run asks
     pub run_asks : (n ≤ 4096) × (3 + 3 * n ≤ length s)
     unfolding bodies_begin

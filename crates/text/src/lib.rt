@@ -15,7 +15,6 @@ use append::Page;
 use counting::tally_of;
 use keys::write_known_keys;
 use lines::{write_first, write_lines, write_tally};
-use reader::Checked;
 use running::run;
 use token::Token;
 
@@ -63,7 +62,7 @@ pub fn text_of(sheet: &[u8], out: &mut [u8; 131072]) -> usize
     let mut records = [0u8; 12288];
     let ran = run(sheet, &mut records);
     match ran.checked {
-        Checked::Malformed(place) => write_malformed(place, out),
-        Checked::Good(policy, n) => write_run(sheet, policy, n, &records, ran.token, out),
+        Err(fault) => write_malformed(fault.place, out),
+        Ok(header) => write_run(sheet, header.policy, header.count, &records, ran.token, out),
     }
 }

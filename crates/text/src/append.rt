@@ -4,6 +4,8 @@ ghost use Rattle.std.specs.Prelude.{◌+◌, ◌≡◌, ◌∷◌, [], ◌++◌,
 ghost use Rattle.text.specs.Text.{decimal};
 ghost use Rattle.text.specs.Writing.{HasRoom, Puts};
 
+use itoa::Buffer;
+
 #[derive(Drop)]
 pub struct Page<'a> {
     pub buffer: &'a mut [u8],
@@ -27,26 +29,6 @@ impl Page<'_> {
         self.bytes(&[byte]);
     }
 
-    // A number's digits: the last one behind those of a tenth of it.
-    fn decimal(&mut self, x: u16)
-        requires { HasRoom (length (decimal x)) self.old }
-        ensures { Puts (length (decimal x)) (decimal x) self.old self.new }
-    {
-        if 10 <= x {
-            self.decimal(x / 10);
-        }
-        self.byte(b'0' + (x % 10) as u8);
-    }
-
-    // A number, and the blank or line feed behind it.
-    pub fn number(&mut self, x: u16, after: u8)
-        requires { HasRoom 6 self.old }
-        ensures { Puts 6 (decimal x ++ after ∷ []) self.old self.new }
-    {
-        self.decimal(x);
-        self.byte(after);
-    }
-
     // A word, and the blank or line feed behind it.
     pub fn word(&mut self, word: &[u8], after: u8)
         requires { HasRoom (length word.now + 1) self.old }
@@ -54,6 +36,15 @@ impl Page<'_> {
     {
         self.bytes(word);
         self.byte(after);
+    }
+
+    // A number in decimal, and the blank or line feed behind it.
+    pub fn number(&mut self, x: u16, after: u8)
+        requires { HasRoom 6 self.old }
+        ensures { Puts 6 (decimal x ++ after ∷ []) self.old self.new }
+    {
+        let mut digits = Buffer::new();
+        self.word(digits.format(x).as_bytes(), after);
     }
 
     // A word, a blank, the number of which the word tells, and the blank or line feed behind that.

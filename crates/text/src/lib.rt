@@ -26,7 +26,8 @@ pub struct Tally {
     pub refused: u16,
 }
 
-// The text of a run: of the sheet's commands with their records, three bytes each, and of the token at the end.
+// The text of a run: of the sheet's commands with their records, three bytes each, and of the token at the end. The records come in the
+// whole buffer that `run` lends, so their count stands beside them, in the header.
 fn write_run(
     sheet: &[u8],
     header: Header,

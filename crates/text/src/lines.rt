@@ -21,7 +21,7 @@ fn name_of_policy(number: u8) -> &'static [u8]
     }
 }
 
-// A command's name, by its number; an empty name for a number of no command.
+// A command's name, by its number, which is all that is told of the command; an empty name for a number of no command.
 #[tactic(auto, unfolding(crate::specs::Text::command_name, crate::specs::Text::command_names, crate::specs::Text::word))]
 fn name_of_command(number: u8) -> &'static [u8]
     ensures name { result.now ≡ command_name number }

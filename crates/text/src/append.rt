@@ -4,8 +4,6 @@ ghost use Rattle.std.specs.Prelude.{◌+◌, ◌≡◌, ◌∷◌, [], ◌++◌,
 ghost use Rattle.text.specs.Text.{decimal};
 ghost use Rattle.text.specs.Writing.{HasRoom, Puts};
 
-use itoa::Buffer;
-
 #[derive(Drop)]
 pub struct Page<'a> {
     pub buffer: &'a mut [u8],
@@ -13,7 +11,7 @@ pub struct Page<'a> {
 }
 
 impl Page<'_> {
-    pub fn bytes(&mut self, bytes: &[u8])
+    fn bytes(&mut self, bytes: &[u8])
         requires { HasRoom (length bytes.now) self.old }
         ensures { Puts (length bytes.now) bytes.now self.old self.new }
     {
@@ -22,7 +20,7 @@ impl Page<'_> {
         self.at = end;
     }
 
-    pub fn byte(&mut self, byte: u8)
+    fn byte(&mut self, byte: u8)
         requires { HasRoom 1 self.old }
         ensures { Puts 1 (byte ∷ []) self.old self.new }
     {
@@ -43,7 +41,7 @@ impl Page<'_> {
         requires { HasRoom 6 self.old }
         ensures { Puts 6 (decimal x ++ after ∷ []) self.old self.new }
     {
-        let mut digits = Buffer::new();
+        let mut digits = itoa::Buffer::new();
         self.word(digits.format(x).as_bytes(), after);
     }
 

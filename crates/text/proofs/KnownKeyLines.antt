@@ -6,8 +6,7 @@ use mathlib.Core.Path.{◌≡◌, sym, ap, ◌∙◌}
 use mathlib.Core.Bool.{true, false}
 use mathlib.Core.List.{List, [], ◌∷◌, ◌++◌, append_assoc, append-nil}
 use lib.ListN.{length, get_or, take}
-use lib.Seq.{take-suc, take_all}
-use Rattle.rules.specs.State.{most_terms}
+use lib.Seq.{take-suc}
 use Rattle.shapes.specs.declared.Entry.{Entry}
 use Rattle.shapes.specs.Entries.{key_of, is_own_entry}
 use Rattle.token.specs.Shows.{blank_entry}
@@ -53,9 +52,3 @@ key_lined_next entries i more so_far p =
     let both = puts_then so_far p in
     puts_as (sym (ap marked_lines next ∙ marked_lines_more (take i entries) (get_or entries i blank_entry)))
     (puts_few (20 * (i + 1)) (omega (arith, both.wrote.few)) both)
-
-pub key_lined_all : (entries : List Entry) (i : ℕ) → length entries ≡ most_terms → most_terms ≤ i → i ≤ most_terms
-    → {before after : Page} → Puts (20 * i) (marked_lines (take i entries)) before after
-    → Puts 20480 (marked_lines entries) before after
-key_lined_all entries i whole h k so_far =
-    puts_as (ap marked_lines (take_all i entries (omega arith))) (puts_few 20480 (omega (arith, so_far.wrote.few)) so_far)

@@ -1,7 +1,8 @@
--- From the ground up: bytes placed in a buffer, numbers in decimal, a line word by word, the lines of commands and of keys, the
--- tally, the whole text; then that the text computed is the text of document 01, and that every byte string has one text.
+-- From the ground up: bytes placed in a buffer, numbers in decimal, the names of policies, a line word by word, the lines of commands and
+-- of keys, the tally, the whole text; then that the text computed is the text of document 01, and that every byte string has one text.
 pub mod Placed
 pub mod Decimals
+pub mod PolicyNames
 pub mod WordByWord
 pub mod CommandLines
 pub mod KnownKeyLines

@@ -3,7 +3,7 @@ use Prim.Native.Nat.{ℕ, ◌+◌, ◌-◌, ◌≤◌}
 use native.Mathlib.Nat.{add-zero, zero-add}
 use native.Mathlib.Omega.{arith}
 use mathlib.Core.Path.{◌≡◌, refl, sym, ap, ◌∙◌, subst}
-use mathlib.Core.List.{List, [], ◌++◌, append_assoc, append-nil}
+use mathlib.Core.List.{List, [], ◌∷◌, ◌++◌, append_assoc, append-nil}
 use lib.ListN.{length, take, drop, length-append, length-drop, take-append-drop}
 use lib.Seq.{length-take-le, take_at, drop_at, drop-drop}
 use borrow.Rule.Slice.PartMut.{put_mid}
@@ -124,6 +124,12 @@ puts_at_most n h p = puts_few n (omega (arith, p.wrote.few)) p
 pub puts_as : {m : ℕ} {bytes same : List ℕ} {before after : Page} → bytes ≡ same → Puts m bytes before after
     → Puts m same before after
 puts_as {m} {before} {after} e p = subst (λ (l : List ℕ). Puts m l before after) e p
+
+-- a name is as long as what it names, at most so many bytes
+pub puts_name : (most end : ℕ) {name w : List ℕ} → name ≡ w → length name ≤ most → {before after : Page}
+    → Puts (length name + 1) (name ++ end ∷ []) before after
+    → Puts (most + 1) (w ++ end ∷ []) before after
+puts_name most end same short p = puts_as (ap (λ (l : List ℕ). l ++ end ∷ []) same) (puts_at_most (most + 1) (omega arith) p)
 
 -- a text put on a page from the buffer's front on
 pub puts_all : {m : ℕ} {text : List ℕ} {before after : Page} → m ≤ 131072 → before.at ≡ 0 → Puts m text before after

@@ -1,14 +1,14 @@
 -- A line put on a page word by word, each with the blank or the line feed behind it. Rests on Placed and
 -- Decimals.
-use Prim.Native.Nat.{ℕ, ◌+◌, ◌≤◌, ◌<◌}
+use Prim.Native.Nat.{ℕ, ◌+◌, ◌<◌}
 use native.Mathlib.Omega.{arith}
 use mathlib.Core.Path.{◌≡◌, ap, ◌∙◌}
 use mathlib.Core.List.{List, [], ◌∷◌, ◌++◌, append_assoc}
-use lib.ListN.{length, length-append}
+use lib.ListN.{length-append}
 use Rattle.text.specs.declared.append.Page.{Page}
 use Rattle.text.specs.Text.{decimal, line}
 use Rattle.text.specs.Writing.{Puts}
-use Rattle.text.proofs.Placed.{puts_then, puts_few, puts_at_most, puts_as}
+use Rattle.text.proofs.Placed.{puts_then, puts_few, puts_as}
 use Rattle.text.proofs.Decimals.{decimal_3}
 
 -- a word with a blank behind it, and the rest of its line
@@ -42,12 +42,6 @@ module _ (w : List ℕ) (x : ℕ) where
       → Puts m (line (w ∷ decimal x ∷ [])) before after
   unfolding line
   puts_told_end p = puts_as (append_assoc w (32 ∷ []) (decimal x ++ 10 ∷ [])) p
-
--- a name is as long as what it names, at most so many bytes
-pub puts_name : (most end : ℕ) {name w : List ℕ} → name ≡ w → length name ≤ most → {before after : Page}
-    → Puts (length name + 1) (name ++ end ∷ []) before after
-    → Puts (most + 1) (w ++ end ∷ []) before after
-puts_name most end same short p = puts_as (ap (λ (l : List ℕ). l ++ end ∷ []) same) (puts_at_most (most + 1) (omega arith) p)
 
 -- an answer has at most three digits
 pub puts_answer : (x end : ℕ) {n : ℕ} → n ≡ x → x < 256 → {m : ℕ} {before after : Page} → Puts m (decimal n ++ end ∷ []) before after

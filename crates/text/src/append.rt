@@ -11,7 +11,7 @@ pub struct Page<'a> {
 }
 
 impl Page<'_> {
-    pub fn bytes(&mut self, bytes: &[u8])
+    fn bytes(&mut self, bytes: &[u8])
         requires { HasRoom (length bytes.now) self.old }
         ensures { Puts (length bytes.now) bytes.now self.old self.new }
     {
@@ -20,31 +20,11 @@ impl Page<'_> {
         self.at = end;
     }
 
-    pub fn byte(&mut self, byte: u8)
+    fn byte(&mut self, byte: u8)
         requires { HasRoom 1 self.old }
         ensures { Puts 1 (byte ∷ []) self.old self.new }
     {
         self.bytes(&[byte]);
-    }
-
-    // A number's digits: the last one behind those of a tenth of it.
-    fn decimal(&mut self, x: u16)
-        requires { HasRoom (length (decimal x)) self.old }
-        ensures { Puts (length (decimal x)) (decimal x) self.old self.new }
-    {
-        if 10 <= x {
-            self.decimal(x / 10);
-        }
-        self.byte(b'0' + (x % 10) as u8);
-    }
-
-    // A number, and the blank or line feed behind it.
-    pub fn number(&mut self, x: u16, after: u8)
-        requires { HasRoom 6 self.old }
-        ensures { Puts 6 (decimal x ++ after ∷ []) self.old self.new }
-    {
-        self.decimal(x);
-        self.byte(after);
     }
 
     // A word, and the blank or line feed behind it.
@@ -54,6 +34,15 @@ impl Page<'_> {
     {
         self.bytes(word);
         self.byte(after);
+    }
+
+    // A number in decimal, and the blank or line feed behind it.
+    pub fn number(&mut self, x: u16, after: u8)
+        requires { HasRoom 6 self.old }
+        ensures { Puts 6 (decimal x ++ after ∷ []) self.old self.new }
+    {
+        let mut digits = itoa::Buffer::new();
+        self.word(digits.format(x).as_bytes(), after);
     }
 
     // A word, a blank, the number of which the word tells, and the blank or line feed behind that.

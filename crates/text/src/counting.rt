@@ -5,7 +5,7 @@ ghost use Rattle.text.specs.Printing.{tally_of, as_counts, as_tally};
 
 use crate::Tally;
 
-// Records one answer in a tally that is lent.
+// Records one answer in a tally that is lent: the form that document 01 names.
 #[tactic(auto, unfolding(sheets::specs::Reports::count_one))]
 fn record(tally: &mut Tally, answer: u8)
     requires { tally.old.done + tally.old.refused < 65535 }

@@ -15,6 +15,7 @@ use append::Page;
 use counting::tally_of;
 use keys::write_known_keys;
 use lines::{write_first, write_lines, write_tally};
+use reader::Header;
 use running::run;
 use token::Token;
 
@@ -25,23 +26,23 @@ pub struct Tally {
     pub refused: u16,
 }
 
-// The text of a run: of the sheet's n commands with their records, three bytes each, and of the token at the end.
+// The text of a run: of the sheet's commands with their records, three bytes each, and of the token at the end. The records come in the
+// whole buffer that `run` lends, so their count stands beside them, in the header.
 fn write_run(
     sheet: &[u8],
-    policy: u8,
-    n: u16,
+    header: Header,
     records: &[u8; 12288],
     token: Token,
     out: &mut [u8; 131072],
 ) -> usize
-    requires { (n ≤ 4096) × (3 + 3 * n ≤ length sheet.now) }
-    ensures { Printed (run_text policy sheet.now n records.now token.table.entries)
+    requires { (header.count ≤ 4096) × (3 + 3 * header.count ≤ length sheet.now) }
+    ensures { Printed (run_text header.policy sheet.now header.count records.now token.table.entries)
         out.old out.new result }
 {
     let mut page = Page { buffer: out, at: 0 };
-    write_first(policy, n, &mut page);
-    write_lines(sheet, n, records, &mut page);
-    write_tally(tally_of(records, n), &mut page);
+    write_first(header.policy, header.count, &mut page);
+    write_lines(sheet, header.count, records, &mut page);
+    write_tally(tally_of(records, header.count), &mut page);
     write_known_keys(token, &mut page);
     page.at
 }
@@ -63,6 +64,6 @@ pub fn text_of(sheet: &[u8], out: &mut [u8; 131072]) -> usize
     let ran = run(sheet, &mut records);
     match ran.checked {
         Err(fault) => write_malformed(fault.place, out),
-        Ok(header) => write_run(sheet, header.policy, header.count, &records, ran.token, out),
+        Ok(header) => write_run(sheet, header, &records, ran.token, out),
     }
 }

@@ -7,21 +7,21 @@ ghost use Rattle.text.specs.Writing.{HasRoom, Puts};
 
 use crate::Tally;
 use crate::append::Page;
+use shapes::policy::Policy;
 
-// A policy's name, by its number: every number from 2 on stands for the third policy.
-#[tactic(auto, unfolding(crate::specs::Text::policy_name, crate::specs::Text::word, sheets::specs::Reading::read_policy))]
-fn name_of_policy(policy: u8) -> &'static [u8]
-    ensures name { result.now ≡ policy_name (read_policy policy) }
+// A policy's name, by the number that a sheet has.
+fn name_of_policy(number: u8) -> &'static [u8]
+    ensures name { result.now ≡ policy_name (read_policy number) }
     ensures short { length result.now ≤ 5 }
 {
-    match policy {
-        0 => b"plain",
-        1 => b"stp",
-        _ => b"stp+",
+    match Policy::from(number) {
+        Policy::Plain => b"plain",
+        Policy::Stp => b"stp",
+        Policy::StpPlus => b"stp+",
     }
 }
 
-// A command's name, by its number; an empty name for a number of no command.
+// A command's name, by its number, which is all that is told of the command; an empty name for a number of no command.
 #[tactic(auto, unfolding(crate::specs::Text::command_name, crate::specs::Text::command_names, crate::specs::Text::word))]
 fn name_of_command(number: u8) -> &'static [u8]
     ensures name { result.now ≡ command_name number }

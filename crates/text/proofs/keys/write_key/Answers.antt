@@ -1,6 +1,7 @@
 -- Word by word (WordByWord).
 use Rattle.text.specs.Text.{word, key_line}
-use Rattle.text.proofs.WordByWord.{puts_told, puts_name, puts_end}
+use Rattle.text.proofs.Placed.{puts_name}
+use Rattle.text.proofs.WordByWord.{puts_told, puts_end}
 use Rattle.text.proofs.keys.write_key.Goals as goal
 
 pub returns : goal.returns

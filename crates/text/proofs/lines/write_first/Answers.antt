@@ -1,6 +1,7 @@
 -- Word by word (WordByWord).
 use Rattle.text.specs.Text.{word, first_line}
-use Rattle.text.proofs.WordByWord.{puts_next, puts_name, puts_told_end}
+use Rattle.text.proofs.Placed.{puts_name}
+use Rattle.text.proofs.WordByWord.{puts_next, puts_told_end}
 use Rattle.text.proofs.lines.write_first.Goals as goal
 
 pub returns : goal.returns

@@ -1,7 +1,8 @@
 -- Word by word (WordByWord): the answer is a byte, so it has at most three digits.
 use native.Mathlib.Omega.{arith}
 use Rattle.text.specs.Text.{command_line}
-use Rattle.text.proofs.WordByWord.{puts_next, puts_name, puts_end, puts_answer}
+use Rattle.text.proofs.Placed.{puts_name}
+use Rattle.text.proofs.WordByWord.{puts_next, puts_end, puts_answer}
 use Rattle.text.proofs.lines.write_line.Goals as goal
 
 pub number-requires-3 : goal.number-requires-3

@@ -1,13 +1,8 @@
--- At most five digits are put, and one byte behind them (Decimals).
-use native.Mathlib.Omega.{arith}
-use Rattle.text.proofs.Decimals.{decimal_5, puts_number}
+-- At most five digits are put, as std prints them, and one byte behind them (Decimals).
+use mathlib.Core.Path.{◌∙◌}
+use Rattle.text.proofs.Decimals.{decimal_printed}
+use Rattle.text.proofs.Placed.{puts_name}
 use Rattle.text.proofs.append.Page.number.Goals as goal
 
-pub decimal-requires : goal.decimal-requires
-decimal-requires c = omega (arith, decimal_5 c.args.x c.ranges.x.fits)
-
-pub byte-requires : goal.byte-requires
-byte-requires c = omega (arith, decimal_5 c.args.x c.ranges.x.fits, c.decimal.ensures.same_length, c.decimal.ensures.wrote.behind)
-
 pub returns : goal.returns
-returns c = puts_number _ _ c.ranges.x.fits c.decimal.ensures c.byte.ensures
+returns c = puts_name 5 _ (c.as_bytes.ensures.value ∙ c.format.ensures.text ∙ decimal_printed _ c.ranges.x.fits) (rw c.as_bytes.ensures.len c.format.ensures.fits) c.word.ensures

@@ -16,10 +16,7 @@ use crate::tables::{Making, Use, bars_wrap, granted, lacks};
 use crate::{Change, Done, Refusal, View};
 use shapes::entries::{is_key, key_of, payload_no};
 use shapes::policy::Policy;
-use shapes::{Command, Entry, HandleNo, KeyNo, Slot, Term, TermNo};
-
-// As many terms as there can be.
-const MOST_TERMS: u16 = 1024;
+use shapes::{Command, Entry, HandleNo, KeyNo, MOST_TERMS, Slot, Term, TermNo};
 
 // The value that no flag byte may hold; from here on every byte holds it.
 const TOP_BIT: u8 = 128;

@@ -8,11 +8,7 @@ ghost use Rattle.reader.specs.Parts.{HeaderOf, row_of, faulty, RowInside};
 
 use crate::{Header, Malformed};
 use shapes::parse::{body_length, known_number};
-
-// The greatest policy number, of STP+, and the most commands of a sheet.
-const MOST_POLICY: u8 = 2;
-
-const MOST_COMMANDS: u16 = 4096;
+use shapes::{MOST_COMMANDS, MOST_POLICY};
 
 // A row of the table: an entry's command number, and where its body begins.
 #[derive(Clone, Copy)]

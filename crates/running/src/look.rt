@@ -8,7 +8,7 @@ use crate::find::find;
 use deciding::View;
 use handles::{free, is_live};
 use shapes::entries::{key_of, payload_no};
-use shapes::{Command, Entry, HandleNo, KeyNo, Slot, TermNo};
+use shapes::{Command, Entry, HandleNo, KeyNo, MOST_TERMS, Slot, TermNo};
 use token::Token;
 
 // The terms that a command looks at: its handles' own; the first that it names and what that seals; or the two that it names, of which
@@ -83,7 +83,7 @@ pub fn place(t: TermNo) -> usize
     ensures value { result ≡ inside t.0 }
     ensures upper_bound { result < most_terms }
 {
-    if t.0 < 1024 { t.0 as usize } else { 0 }
+    if t.0 < MOST_TERMS { t.0 as usize } else { 0 }
 }
 
 // The place of the term that a command looks at first.

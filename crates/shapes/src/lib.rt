@@ -6,6 +6,13 @@ pub mod entries;
 pub mod parse;
 pub mod policy;
 
+// The greatest policy number, of STP+; the most commands of a sheet; the most terms.
+pub const MOST_POLICY: u8 = 2;
+
+pub const MOST_COMMANDS: u16 = 4096;
+
+pub const MOST_TERMS: u16 = 1024;
+
 // Handle numbers, key numbers and term numbers are three separate counts.
 #[derive(Clone, Copy, PartialEq, Eq)]
 pub struct HandleNo(pub u8);

@@ -4,13 +4,10 @@ ghost use Rattle.sheets.specs.Bytes.{two_at};
 ghost use Rattle.sheets.specs.Faults.{known_number, body_length};
 ghost use Rattle.shapes.specs.Commands.{not_a_call, parsed};
 
-use crate::{Command, HandleNo, TermNo};
+use crate::{Command, HandleNo, MOST_POLICY, TermNo};
 
 // By command number, from 0, which is no command.
 const LENGTHS: [usize; 11] = [0, 1, 2, 4, 3, 3, 1, 1, 0, 0, 4];
-
-// The greatest policy number, of STP+.
-const MOST_POLICY: u8 = 2;
 
 // A term number: two bytes, big-endian.
 fn term_at(body: &[u8], at: usize) -> TermNo

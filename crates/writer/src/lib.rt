@@ -7,14 +7,10 @@ ghost use Rattle.writer.specs.Parts.{found_as};
 
 use put::Asked;
 use records::command_at;
+use shapes::{MOST_COMMANDS, MOST_POLICY};
 
 mod put;
 mod records;
-
-// The greatest policy number, of STP+, and the most commands of a sheet.
-const MOST_POLICY: u8 = 2;
-
-const MOST_COMMANDS: u16 = 4096;
 
 // Why no sheet was written: the place of what no sheet can hold, or a buffer that is too short.
 #[derive(Clone, Copy, PartialEq, Eq)]

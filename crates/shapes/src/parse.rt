@@ -1,6 +1,5 @@
 // A command from its number and its body's bytes, with the constant table of body lengths.
-ghost use Rattle.std.specs.Prelude.{◌≡◌, ◌<◌, ◌+◌, length};
-ghost use Rattle.sheets.specs.Bytes.{two_at};
+ghost use Rattle.std.specs.Prelude.{◌≡◌, ◌+◌, ◌*◌};
 ghost use Rattle.sheets.specs.Faults.{known_number, body_length};
 ghost use Rattle.shapes.specs.Commands.{not_a_call, parsed};
 
@@ -10,24 +9,22 @@ use crate::{Command, HandleNo, MOST_POLICY, TermNo};
 const LENGTHS: [usize; 11] = [0, 1, 2, 4, 3, 3, 1, 1, 0, 0, 4];
 
 // A term number: two bytes, big-endian.
-fn term_at(body: &[u8], at: usize) -> TermNo
-    requires { at + 1 < length body.now }
-    ensures { result.0 ≡ two_at body.now at }
+fn term(high: u8, low: u8) -> TermNo
+    ensures { result.0 ≡ high * 256 + low }
 {
-    TermNo(u16::from_be_bytes([body[at], body[at + 1]]))
+    TermNo(u16::from_be_bytes([high, low]))
 }
 
 // Is this the number of a command?
+#[tactic(auto, using(std::proofs::lemmas::Bool::Decides::nat_tests), unfolding(crate::proofs::Parsing::parsing_opened))]
 pub fn known_number(number: u8) -> bool
     ensures { result ≡ known_number number }
 {
-    if number == 0 {
-        return false;
-    }
-    number <= 10
+    matches!(number, 1..=10)
 }
 
 // The length of a command's body, by command number; 0 for a number of no command.
+#[tactic(auto, using(crate::proofs::Parsing::known_below, crate::proofs::Parsing::unknown_empty, crate::proofs::Tables::length_is))]
 pub fn body_length(number: u8) -> usize
     ensures { result ≡ body_length number }
 {
@@ -37,38 +34,33 @@ pub fn body_length(number: u8) -> usize
     LENGTHS[number as usize]
 }
 
+#[tactic(auto, using(std::proofs::lemmas::Bool::Decides::nat_tests), unfolding(crate::proofs::Parsing::parsing_opened))]
 pub fn parse(number: u8, body: &[u8]) -> Option<Command>
     ensures { result ≡ parsed number body.now }
 {
-    if !known_number(number) {
-        return None;
-    }
-    if body.len() != body_length(number) {
-        return None;
-    }
-    match number {
-        1 => Some(Command::Generate(body[0])),
-        2 => Some(Command::Wrap(HandleNo(body[0]), HandleNo(body[1]))),
-        3 => Some(Command::Unwrap(HandleNo(body[0]), term_at(body, 1), body[3])),
-        4 => Some(Command::Encrypt(HandleNo(body[0]), term_at(body, 1))),
-        5 => Some(Command::Decrypt(HandleNo(body[0]), term_at(body, 1))),
-        6 => Some(Command::Corrupt(HandleNo(body[0]))),
-        7 => Some(Command::Destroy(HandleNo(body[0]))),
-        8 => Some(Command::OwnKey),
-        9 => Some(Command::OwnData),
-        _ => Some(Command::Seal(term_at(body, 0), term_at(body, 2))),
+    match (number, body) {
+        (1, [flags]) => Some(Command::Generate(*flags)),
+        (2, [a, b]) => Some(Command::Wrap(HandleNo(*a), HandleNo(*b))),
+        (3, [h, high, low, flags]) => Some(Command::Unwrap(
+            HandleNo(*h),
+            term(*high, *low),
+            *flags,
+        )),
+        (4, [h, high, low]) => Some(Command::Encrypt(HandleNo(*h), term(*high, *low))),
+        (5, [h, high, low]) => Some(Command::Decrypt(HandleNo(*h), term(*high, *low))),
+        (6, [h]) => Some(Command::Corrupt(HandleNo(*h))),
+        (7, [h]) => Some(Command::Destroy(HandleNo(*h))),
+        (8, []) => Some(Command::OwnKey),
+        (9, []) => Some(Command::OwnData),
+        (10, [a, b, c, d]) => Some(Command::Seal(term(*a, *b), term(*c, *d))),
+        _ => None,
     }
 }
 
 // Is a direct call none: a policy above 2, an unknown command number, or a body not of that command's length?
+#[tactic(auto, using(std::proofs::lemmas::Bool::Decides::nat_tests), unfolding(crate::proofs::Parsing::parsing_opened))]
 pub fn not_a_call(policy: u8, number: u8, body: &[u8]) -> bool
     ensures { result ≡ not_a_call policy number body.now }
 {
-    if MOST_POLICY < policy {
-        return true;
-    }
-    if !known_number(number) {
-        return true;
-    }
-    body.len() != body_length(number)
+    MOST_POLICY < policy || !known_number(number) || body.len() != body_length(number)
 }

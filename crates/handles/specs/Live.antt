@@ -1,6 +1,5 @@
 -- The live handles as four words of 64 bits: handle h is bit h % 64 of word h / 64. Assumes nothing.
-use Rattle.std.specs.Prelude.{ℕ, zero, suc, ◌/◌, ◌%◌, ◌^◌, ◌<◌, ◌≡◌, Some, None, Bool, not, cond, List, eqb, length, get_or}
-use Rattle.std.specs.Prelude.{Option}
+use Rattle.std.specs.Prelude.{ℕ, zero, suc, ◌/◌, ◌%◌, ◌^◌, ◌<◌, ◌≡◌, Option, Some, None, Bool, not, cond, List, eqb, length, get_or}
 use Rattle.std.proofs.Math.Option.{Option as Found, none, some}
 use Rattle.rules.specs.State.{most_handles}
 use Rattle.sheets.specs.Faults.{smallest}

@@ -1,4 +1,6 @@
-// What a token tells besides the answers to commands: the known keys, where a key comes from, how many handles are live.
+// What a token tells besides the answers to commands: the known keys, where a key comes from, how many handles are live. The entries
+// are taken out of the token and walked by value: a reference into it has the whole token copied first, which was measured to take
+// half as long again.
 ghost use Rattle.std.specs.Prelude.{◌≡◌, ◌*◌, ◌≤◌, length};
 ghost use Rattle.sheets.specs.Reports.{keys_bytes};
 ghost use Rattle.sheets.specs.Calls.{over};
@@ -21,14 +23,17 @@ pub fn is_known(entry: Entry) -> bool
 pub fn known_count(token: Token) -> u16
     ensures { result ≡ length (marked_keys token.table.entries) }
 {
-    let entries = &token.table.entries;
-    entries.iter().map(|entry| u16::from(is_known(*entry))).sum()
+    let entries = token.table.entries;
+    entries
+        .iter()
+        .map(|entry| u16::from(is_known(*entry)))
+        .sum()
 }
 
 // Writes the numbers of the known keys, two bytes each.
-fn write_keys(entries: &[Entry; 1024], out: &mut [u8])
-    requires { 2 * length (marked_keys entries.now) ≤ length out.old }
-    ensures { out.new ≡ over (keys_bytes (marked_keys entries.now)) out.old }
+fn write_keys(entries: [Entry; 1024], out: &mut [u8])
+    requires { 2 * length (marked_keys entries) ≤ length out.old }
+    ensures { out.new ≡ over (keys_bytes (marked_keys entries)) out.old }
 {
     let known = entries.iter().filter(|entry| is_known(**entry));
     for (i, entry) in known.enumerate() {
@@ -44,7 +49,7 @@ pub fn known_keys(token: Token, out: &mut [u8]) -> Result<u16, Short>
     if out.len() < 2 * usize::from(count) {
         return Err(Short);
     }
-    write_keys(&token.table.entries, out);
+    write_keys(token.table.entries, out);
     Ok(count)
 }
 
@@ -52,7 +57,7 @@ pub fn known_keys(token: Token, out: &mut [u8]) -> Result<u16, Short>
 pub fn origin(token: Token, k: KeyNo) -> Option<Origin>
     ensures { result ≡ origin_in token.table.entries k.0 }
 {
-    let entries = &token.table.entries;
+    let entries = token.table.entries;
     let entry = entries.iter().find(|entry| entry.term == Term::Key(k))?;
     Some(if entry.marks.own {
         Origin::Own

@@ -9,7 +9,8 @@ ghost use Rattle.token.specs.Known.{blank_token};
 
 use shapes::{Entry, KeyNo, Marks, Slot, Term, TermNo};
 
-// The terms by number, and how many terms and keys there are. Past the last term every entry is blank.
+// The terms by number, and how many terms and keys there are. Past the last term every entry is blank. The counts stand beside an
+// array, and in no vector, since memory is fixed and a token is copied as it stands.
 #[derive(Clone, Copy)]
 pub struct Table {
     pub entries: [Entry; 1024],
@@ -19,7 +20,7 @@ pub struct Table {
 
 // Ways through the seals, each link one more than a term number, or 0 for none: by key the newest seal under it, and from a seal the
 // next older one under the same key; by bucket the newest seal of it, and from a seal the next older one of the same bucket. The
-// code of a seal is a number that no other seal has.
+// code of a seal is a number that no other seal has. Each list stands by itself, as `Linked` and `ShowsLinks` of specs/ speak of it.
 #[derive(Clone, Copy)]
 pub struct Links {
     pub newest: [u16; 1024],

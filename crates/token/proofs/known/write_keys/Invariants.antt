@@ -6,4 +6,4 @@ use Rattle.token.specs.Known.{marked_keys}
 use Rattle.token.proofs.known.write_keys.Given as goal
 
 abbrev pub invariant-loop-i : goal.invariant-loop-i
-invariant-loop-i l = l.out ≡ over (keys_bytes (take (length l.yielded) (marked_keys l.entries))) l.initial.out
+invariant-loop-i l = l.out ≡ over (keys_bytes (take (length l.yielded) (marked_keys l.fn.entries))) l.initial.out

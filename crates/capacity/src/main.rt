@@ -21,7 +21,8 @@ fn repeat<R: Print>(rt: &R, token: Token, times: u16, command: Command) -> io::R
     let mut now = token;
     for _ in 0..times {
         let called = running::call(now, 0, number, body);
-        println!(rt; "{number} {} {}", called.answer, called.value)?;
+        let (answer, value) = running::numbers(called.said);
+        println!(rt; "{number} {answer} {value}")?;
         now = called.token;
     }
     Ok(now)

@@ -48,8 +48,9 @@ fn sequence<'a, W: Write>(
             return Ok(None);
         };
         let called = running::call(now, policy, call.number, call.body);
-        let [high, low] = called.value.to_be_bytes();
-        out.write_all(&[called.answer, high, low])?;
+        let (answer, value) = running::numbers(called.said);
+        let [high, low] = value.to_be_bytes();
+        out.write_all(&[answer, high, low])?;
         now = called.token;
         rest = call.behind;
     }

@@ -1,15 +1,15 @@
 -- The walk over the entries of a sheet, as `check` makes it: how it begins, goes on, and ends in each answer.
 -- Rests on Tests, and on the laws of places and faults of the crate `sheets`.
 use Prim.Native.Nat.{ℕ, zero, suc, ◌+◌, ◌≤◌, ◌<◌}
-use native.Mathlib.Nat.{eq-or-lt_of_le, le_of_suc-le-suc, not-suc-le-zero}
+use native.Mathlib.Nat.{le_of_suc-le-suc}
 use native.Mathlib.Numerals.{add-one}
 use native.Mathlib.Omega.{arith}
-use mathlib.Core.Path.{◌≡◌, sym, ap, subst, ◌∙◌}
-use mathlib.Core.Logic.{⊎_elim}
+use mathlib.Core.Path.{◌≡◌, sym, ap, ◌∙◌}
 use mathlib.Core.Bool.{true, false}
 use mathlib.Core.List.{List}
 use mathlib.Core.Option.{none}
 use lib.ListN.{length}
+use borrow.Author.Count.{below_none, below_more}
 use borrow.Author.Tests.{lt-ltb}
 use Rattle.std.specs.Prelude.{Ok, Err}
 use Rattle.sheets.specs.Sheets.{bodies_begin}
@@ -40,7 +40,7 @@ named s place f = rw ((first_fault_some s place).1 f)
 pub header_named : (s : List ℕ) → header_fault s ≡ true → Err (record { place = 0 }) ≡ checked s
 unfolding fault_at
 header_named s e =
-    named s 0 (record { in_range = omega arith; is_fault = e; none_before = λ j h. absurd (not-suc-le-zero h) })
+    named s 0 (record { in_range = omega arith; is_fault = e; none_before = below_none (λ j. fault_at s j ≡ false) })
 
 -- no fault at the places behind
 none_behind : (s : List ℕ) (i end : ℕ) → Walked s i end → (j : ℕ) → j < suc i → fault_at s j ≡ false
@@ -70,7 +70,7 @@ module _ (s : List ℕ) (header : Header) (is_header : header ≡ header_of s) w
         in_range = omega arith;
         at_end = here;
         inside = omega (arith, here, faultless.table_inside);
-        entries = λ j h. absurd (not-suc-le-zero h);
+        entries = below_none (EntryFaultless s);
       }
 
   module _ (i end : ℕ) (w : Walked s i end) (h : i < header.count) where
@@ -100,17 +100,13 @@ module _ (s : List ℕ) (header : Header) (is_header : header ≡ header_of s) w
           let good = (entry_exactly s i).0 (sym tested ∙ e) in
           let here = ap (λ (r : Row). r.offset + body_length r.number) read in
           let moved : next ≡ bodies_end s (suc i) = omega (arith, ends, here, good.in_place) in
-          rw (add-one i)
-          (record {
+          record {
             header = w.header;
-            in_range = ahead;
-            at_end = moved;
+            in_range = omega (arith, ahead);
+            at_end = rw add-one moved;
             inside = omega (arith, moved, good.inside);
-            entries =
-                λ j l.
-                ⊎_elim (λ (q : j ≡ i). subst (EntryFaultless s) (sym q) good) (w.entries j)
-                (eq-or-lt_of_le (le_of_suc-le-suc l));
-          })
+            entries = below_more (EntryFaultless s) i w.entries good;
+          }
 
   module _ (i end : ℕ) (w : Walked s i end) (h : header.count ≤ i) where
     all_behind : i ≡ count s

@@ -1,16 +1,15 @@
--- The entries of a table from the front: the known keys from an entry on, how many there are, and the first entry of a key.
+-- The entries of a table from the front: the known keys among them, and the first entry of a key.
 -- Rests on the definitions alone.
-use Prim.Native.Nat.{ℕ, zero, suc, ◌+◌, ◌≤◌, ◌<◌}
-use mathlib.Core.Path.{◌≡◌, refl, sym, ap, subst}
+use Prim.Native.Nat.{ℕ, zero, suc, ◌<◌}
+use mathlib.Core.Path.{◌≡◌, refl, sym, ap, subst, ◌∙◌}
 use mathlib.Core.Bool.{true, false, false≢true}
 use mathlib.Core.Logic.{◌≢◌}
 use mathlib.Core.List.{List, [], ◌∷◌}
 use native.Mathlib.Omega.{arith}
-use native.Mathlib.Numerals.{add-one}
-use lib.ListN.{length, get_or, drop, drop_of_length-le}
-use lib.Seq.{drop-cons}
+use lib.ListN.{length, get_or}
 use borrow.Author.Tests.{eqb-true, eq-eqb}
-use Rattle.std.specs.Prelude.{Some, None, filter}
+use Rattle.std.specs.Prelude.{Some, None, filter, map}
+use Rattle.std.proofs.lemmas.List.{length-map}
 use Rattle.terms.proofs.Lists.{bool_cases}
 use Rattle.shapes.specs.declared.Entry.{Entry}
 use Rattle.shapes.specs.declared.Term.{Term as Kind}
@@ -19,29 +18,16 @@ use Rattle.shapes.specs.Entries.{key_of, is_own_entry}
 use Rattle.token.specs.Shows.{blank_entry}
 use Rattle.token.specs.Known.{is_marked, marked_keys, is_key_no, origin_of, origin_in}
 
--- the known keys from entry i on, where that is a known key and where it is none
-module _ (entries : List Entry) (i : ℕ) (in_table : i < length entries) where
-  pub next_marked : is_marked (get_or entries i blank_entry) ≡ true
-      → marked_keys (drop i entries) ≡ (key_of (get_or entries i blank_entry).term).0 ∷ marked_keys (drop (i + 1) entries)
-  unfolding marked_keys
-  next_marked e = rw (add-one, drop-cons entries i blank_entry, e)
-
-  pub next_other : is_marked (get_or entries i blank_entry) ≡ false
-      → marked_keys (drop i entries) ≡ marked_keys (drop (i + 1) entries)
-  unfolding marked_keys
-  next_other e = rw (add-one, drop-cons entries i blank_entry, e)
-
-pub none_left : (entries : List Entry) (i : ℕ) → length entries ≤ i → marked_keys (drop i entries) ≡ []
-unfolding marked_keys
-none_left entries i h = rw (drop_of_length-le entries h)
-
 -- the known keys are the numbers of the entries that pass the test
-pub marked_filter : (entries : List Entry) → length (marked_keys entries) ≡ length (filter is_marked entries)
+pub marked_filter : (entries : List Entry) → marked_keys entries ≡ map (λ e. (key_of e.term).0) (filter is_marked entries)
 unfolding marked_keys
 marked_filter [] = refl
 marked_filter (e ∷ entries) =
-    bool_cases (is_marked e) (λ (q : is_marked e ≡ true). rw q (ap suc (marked_filter entries)))
+    bool_cases (is_marked e) (λ (q : is_marked e ≡ true). rw q (ap (λ list. (key_of e.term).0 ∷ list) (marked_filter entries)))
     (λ (q : is_marked e ≡ false). rw q (marked_filter entries))
+
+pub marked_count : (entries : List Entry) → length (marked_keys entries) ≡ length (filter is_marked entries)
+marked_count entries = ap length (marked_filter entries) ∙ length-map (filter is_marked entries) _
 
 -- a kind is key number k's, or it is not
 pub is_key_true : (k : ℕ) (kind : Kind) → is_key_no k kind ≡ true → kind ≡ Key (record { 0 = k })

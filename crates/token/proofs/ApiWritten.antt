@@ -1,93 +1,109 @@
--- Writing the known keys over the front of a buffer, two bytes each, entry by entry. Rests on ApiKnown.
-use Prim.Native.Nat.{ℕ, suc, ◌+◌, ◌*◌, ◌≤◌, ◌<◌}
+-- Writing the known keys over the front of a buffer, two bytes each, one after another. Rests on ApiKnown.
+use Prim.Native.Nat.{ℕ, zero, suc, ◌+◌, ◌*◌, ◌≤◌, ◌<◌}
 use mathlib.Core.Path.{◌≡◌, refl, sym, ◌∙◌, ap}
-use mathlib.Core.Bool.{Bool, true, false, cond}
-use mathlib.Core.List.{List, ◌∷◌, ◌++◌, append_assoc}
+use mathlib.Core.Bool.{Bool, true, false, cond, ◌&&◌}
+use mathlib.Core.List.{List, [], ◌∷◌, ◌++◌, append_assoc}
 use native.Mathlib.Omega.{arith}
+use native.Mathlib.Numerals.{add-one}
 use lib.Dec.{leb}
-use lib.ListN.{length, get_or, take, drop, take-append-drop, length-append, length-take, length-drop}
+use lib.ListN.{length, get_or, take, drop, length-append, length-take}
 use lib.Seq.{drop-drop}
 use borrow.Rule.Slice.PartMut.{put_mid}
-use Rattle.std.proofs.lemmas.Slice.{take-put_mid, drop-put_mid}
 use borrow.Author.Tests.{le-leb, lt-leb}
-use Rattle.rules.specs.State.{most_terms}
+use denote.Bor.{Bor}
+use Rattle.std.specs.Prelude.{Result, Ok, Err, Option, Some, None, filter}
+use Rattle.std.specs.Fn.{CalledAt}
+use Rattle.std.specs.Iterator.{Yields}
+use Rattle.std.specs.Iterator.Adapters.{filter_source, filter_callee, filter_steps, enumerate_source, enumerate_count, enumerate_steps}
+use Rattle.std.specs.Slice.Iter.{iter_rest}
+use Rattle.std.proofs.iter.Yields.{fronts}
+use denote.Param.Members.{Mut}
+use Rattle.std.proofs.Common.{Iter}
+use Rattle.std.specs.declared.iter.Filter.{Filter}
+use Rattle.std.specs.declared.iter.Enumerate.{Enumerate}
+use Rattle.std.specs.List.{enumerate_from}
+use Rattle.std.proofs.lemmas.Iterator.{YieldsList, YieldsList-from_slice}
+use Rattle.std.proofs.lemmas.Iterator.Consumers.{YieldsList-at, YieldsList-from_filter, YieldsList-from_enumerate, YieldsList-turn, YieldsList-end}
+use Rattle.std.proofs.lemmas.List.{take_at, drop_at, get_or-map}
+use Rattle.std.proofs.lemmas.List.FromFn.{length-enumerate_from, get_or-enumerate_from}
 use Rattle.sheets.specs.Bytes.{two}
 use Rattle.sheets.specs.Reports.{keys_bytes}
 use Rattle.sheets.specs.Calls.{answer_number, over}
 use Rattle.shapes.specs.declared.Entry.{Entry}
-use Rattle.std.specs.Prelude.{Result, Ok, Err}
+use Rattle.shapes.specs.Entries.{key_of, is_key_kind, is_held}
 use Rattle.token.specs.declared.Short.{Short}
-use Rattle.token.specs.Shows.{blank_entry}
-use Rattle.shapes.specs.Entries.{key_of}
 use Rattle.token.specs.Known.{is_marked, marked_keys, listed_as, listed_number, ListedInto}
-use Rattle.token.proofs.ApiKnown.{next_marked, next_other, none_left}
+use Rattle.token.proofs.ApiKnown.{marked_filter, marked_count}
 
--- writing keys over a buffer from place `at` on is writing the first key there, and the others two places on
-pub over_next : (k : ℕ) (keys out : List ℕ) (at : ℕ) → at + 2 ≤ length out
-    → take at out ++ over (keys_bytes (k ∷ keys)) (drop at out)
-    ≡ take (at + 2) (put_mid at 2 out (two k)) ++ over (keys_bytes keys) (drop (at + 2) (put_mid at 2 out (two k)))
-unfolding over keys_bytes two
-over_next k keys out at h =
-    let n = length (keys_bytes keys) in
-    let inside : at ≤ length out = omega arith in
-    let far : at + suc (suc n) ≡ at + 2 + n = omega arith in
-    let behind : drop (suc (suc n)) (drop at out) ≡ drop n (drop (at + 2) out) =
-    drop-drop (suc (suc n)) at out ∙ ap (λ (m : ℕ). drop m out) far ∙ sym (drop-drop n (at + 2) out) in
-    rw (behind, take-put_mid at 2 out (two k) (at + 2) refl inside, drop-put_mid at 2 out (two k) (at + 2) (omega arith) inside refl)
+-- the bytes of so many keys, and of one key more
+keys_length : (keys : List ℕ) → length (keys_bytes keys) ≡ 2 * length keys
+unfolding keys_bytes two
+keys_length [] = refl
+keys_length (k ∷ keys) = omega (arith, keys_length keys)
+
+keys_more : (keys : List ℕ) (n : ℕ) → n < length keys
+    → keys_bytes (take (suc n) keys) ≡ keys_bytes (take n keys) ++ two (get_or keys n 0)
+unfolding keys_bytes two
+keys_more [] n l = absurd (omega arith)
+keys_more (k ∷ keys) zero l = refl
+keys_more (k ∷ keys) (suc n) l = rw (keys_more keys n (omega arith))
+
+-- two bytes behind what stands at the front
+behind : (front rest bytes : List ℕ) (n : ℕ) → length front ≡ n
+    → put_mid n 2 (front ++ rest) bytes ≡ front ++ (bytes ++ drop 2 rest)
+behind front rest bytes n e = rw (take_at front rest n e, drop_at front rest n e) refl
+
+-- with the first n keys written, key n is written behind them
+pub write_next : (keys before : List ℕ) (n : ℕ) → n < length keys
+    → put_mid (2 * n) 2 (over (keys_bytes (take n keys)) before) (two (get_or keys n 0))
+    ≡ over (keys_bytes (take (n + 1) keys)) before
+unfolding over two
+write_next keys before n l =
+    let front = keys_bytes (take n keys) in
+    let so_many : length front ≡ 2 * n = omega (arith, keys_length (take n keys), length-take n keys) in
+    let more : keys_bytes (take (n + 1) keys) ≡ front ++ two (get_or keys n 0) = rw add-one (keys_more keys n l) in
+    let longer : length (front ++ two (get_or keys n 0)) ≡ 2 * n + 2 = length-append front (two (get_or keys n 0)) ∙ omega (arith, so_many) in
+    rw (more, longer, so_many, behind front (drop (2 * n) before) (two (get_or keys n 0)) (2 * n) so_many, drop-drop 2 (2 * n) before)
     (simp append_assoc)
 
--- the first i entries' known keys are written, and `at` is the place behind them
-pub record Writing (entries : List Entry) (before : List ℕ) (i at : ℕ) (out : List ℕ) : Type 0 where
-  pub in_table : i ≤ most_terms
-  pub same_length : length out ≡ length before
-  pub room : at + 2 * length (marked_keys (drop i entries)) ≤ length out
-  pub rest :
-      over (keys_bytes (marked_keys entries)) before
-      ≡ take at out ++ over (keys_bytes (marked_keys (drop i entries))) (drop at out)
+-- a walk over the entries of known keys, each with its index
+pub known_walk : {F : Type 0} {g : Mut F (Bor (Bor Entry) × Unit {0}) Bool} {f : F} {kept : Filter (Iter Entry) F}
+    {numbered : Enumerate (Filter (Iter Entry) F)} (entries : List Entry)
+    → enumerate_source numbered ≡ kept → enumerate_count numbered ≡ 0 → iter_rest (filter_source kept) ≡ entries
+    → filter_callee kept ≡ f
+    → ((x : Bor Entry) (b : Bool) (q : F) → CalledAt g f x b q → (q ≡ f) × (b ≡ (is_key_kind x.now.term && is_held x.now)))
+    → YieldsList {B = ℕ × Entry} (enumerate_steps (filter_steps fronts g)) (λ p. (p.0, p.1.now)) numbered
+    (enumerate_from 0 (filter is_marked entries))
+known_walk entries source count rest callee tests =
+    YieldsList-from_enumerate
+    (YieldsList-at source
+    (YieldsList-from_filter _ (λ e. is_key_kind e.term && is_held e) (YieldsList-from_slice entries rest) callee tests)) count
 
-pub writing_none : (entries : List Entry) (before : List ℕ) → 2 * length (marked_keys entries) ≤ length before
-    → Writing entries before 0 0 before
-writing_none entries before h = record { in_table = omega arith; same_length = refl; room = omega arith; rest = refl }
+-- how far a walk is, and what the next key is
+module _ {S : Type 0} {steps : S → Option (ℕ × Bor Entry) → S → Type 0} {s : S} (so_far : List (ℕ × Bor Entry)) (t : S)
+    (walked : Yields steps s so_far t) (r : Option (ℕ × Bor Entry)) (u : S) (step : steps t r u) (entries : List Entry)
+    (road : YieldsList {B = ℕ × Entry} steps (λ p. (p.0, p.1.now)) s (enumerate_from 0 (filter is_marked entries))) where
+  pub walk_turn : (i : ℕ) (e : Bor Entry) → r ≡ Some (i, e) → (i ≡ length so_far) × (i < length (marked_keys entries))
+      × ((key_of e.now.term).0 ≡ get_or (marked_keys entries) i 0)
+  walk_turn i e is =
+      let turn = YieldsList-turn road so_far t walked r u (i, e) is step in
+      let passed = filter is_marked entries in
+      let n = length so_far in
+      let inside : n < length passed = omega (arith, turn.0, length-enumerate_from 0 passed) in
+      let here : ◌≡◌ {A = ℕ × Entry} (i, e.now) (0 + n, get_or passed n e.now) = turn.1 ∙ get_or-enumerate_from 0 passed n (i, e.now) inside in
+      let counted : i ≡ 0 + n = ap (λ p. p.0) here in
+      let index : i ≡ n = omega (arith, counted) in
+      let entry : e.now ≡ get_or passed n e.now = ap (λ p. p.1) here in
+      let kept : get_or (marked_keys entries) n 0 ≡ (key_of (get_or passed n e.now).term).0 =
+      ap (λ list. get_or list n 0) (marked_filter entries) ∙ get_or-map (λ e. (key_of e.term).0) passed n e.now 0 inside in (
+        index,
+        omega (arith, index, inside, marked_count entries),
+        ap (λ x. (key_of x.term).0) entry ∙ sym kept ∙ ap (λ m. get_or (marked_keys entries) m 0) (sym index),
+      )
 
-module _ (entries : List Entry) (before : List ℕ) (i at : ℕ) (out : List ℕ) (whole : length entries ≡ most_terms)
-    (so_far : Writing entries before i at out) where
-  pub writing_other : i < most_terms → is_marked (get_or entries i blank_entry) ≡ false → Writing entries before (i + 1) at out
-  writing_other h e =
-      let l : i < length entries = omega arith in
-      let same = next_other entries i l e in
-      record {
-        in_table = omega arith;
-        same_length = so_far.same_length;
-        room = omega (arith, so_far.room, ap length same);
-        rest = rw same at so_far.rest;
-      }
-
-  pub writing_room : i < most_terms → is_marked (get_or entries i blank_entry) ≡ true → at + 2 ≤ length out
-  writing_room h e =
-      let l : i < length entries = omega arith in
-      omega (arith, so_far.room, ap length (next_marked entries i l e))
-
-  pub writing_one : i < most_terms → is_marked (get_or entries i blank_entry) ≡ true
-      → Writing entries before (i + 1) (at + 2) (put_mid at 2 out (two (key_of (get_or entries i blank_entry).term).0))
-  unfolding two
-  writing_one h e =
-      let k = (key_of (get_or entries i blank_entry).term).0 in
-      let l : i < length entries = omega arith in
-      let next = next_marked entries i l e in
-      let inside : at + 2 ≤ length out = writing_room h e in
-      let same : length (put_mid at 2 out (two k)) ≡ length out = simp (length-append, length-take, length-drop) (omega arith) in
-      record {
-        in_table = omega arith;
-        same_length = same ∙ so_far.same_length;
-        room = omega (arith, same, so_far.room, ap length next);
-        rest = (rw next at so_far.rest) ∙ over_next k (marked_keys (drop (i + 1) entries)) out at inside;
-      }
-
-  pub writing_all : most_terms ≤ i → out ≡ over (keys_bytes (marked_keys entries)) before
-  unfolding over keys_bytes
-  writing_all h =
-      let none = none_left entries i (omega arith) in
-      sym ((rw none at so_far.rest) ∙ take-append-drop at out)
+  pub walk_end : r ≡ None → length so_far ≡ length (marked_keys entries)
+  walk_end is =
+      (YieldsList-end road so_far t walked r u is step).1 ∙ length-enumerate_from 0 (filter is_marked entries) ∙ sym (marked_count entries)
 
 -- the list in a buffer that is too short, and in one that has room
 module _ (keys before : List ℕ) (count : ℕ) (counts : count ≡ length keys) where

@@ -22,7 +22,7 @@ pub fn known_count(token: Token) -> u16
     ensures { result ≡ length (marked_keys token.table.entries) }
 {
     let entries = &token.table.entries;
-    entries.iter().filter(|entry| is_known(**entry)).count() as u16
+    entries.iter().map(|entry| u16::from(is_known(*entry))).sum()
 }
 
 // Writes the numbers of the known keys, two bytes each.
@@ -30,12 +30,9 @@ fn write_keys(entries: &[Entry; 1024], out: &mut [u8])
     requires { 2 * length (marked_keys entries.now) ≤ length out.old }
     ensures { out.new ≡ over (keys_bytes (marked_keys entries.now)) out.old }
 {
-    let mut at = 0;
-    for entry in entries {
-        if is_known(*entry) {
-            out[at..at + 2].copy_from_slice(&key_of(*entry).0.to_be_bytes());
-            at += 2;
-        }
+    let known = entries.iter().filter(|entry| is_known(**entry));
+    for (i, entry) in known.enumerate() {
+        out[2 * i..2 * i + 2].copy_from_slice(&key_of(*entry).0.to_be_bytes());
     }
 }
 

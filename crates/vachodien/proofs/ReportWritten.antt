@@ -19,9 +19,9 @@ use Rattle.shapes.specs.Entries.{is_key_kind, is_held}
 use Rattle.sheets.proofs.Calls.{over_length}
 use Rattle.writer.proofs.Over.{lent_length, over_lent}
 use Rattle.token.specs.declared.Token.{Token}
-use Rattle.token.specs.declared.Listed.{Listed}
+use Rattle.token.specs.declared.Short.{Short}
 use Rattle.token.specs.Known.{marked_keys, ListedInto, written_as}
-use Rattle.std.specs.Prelude.{Ok, Err}
+use Rattle.std.specs.Prelude.{Result, Ok, Err}
 use Rattle.vachodien.specs.Replied.{left_report, ReportedInto}
 
 -- two bytes a key
@@ -104,7 +104,7 @@ module _ (n : ℕ) (records : List ℕ) (t : Token) (room : 3 * n ≤ length rec
       → back ≡ take (4 + 3 * n - 4) records
       → (second : List ℕ)
       → second ≡ put_mid 4 (4 + 3 * n - 4) first back
-      → (list : List ℕ) (listed : Listed)
+      → (list : List ℕ) (listed : Result ℕ Short)
       → ListedInto (marked_keys t.table.entries) (take (length second - (4 + 3 * n)) (drop (4 + 3 * n) second)) list listed
       → ReportedInto n records t before (take (4 + 3 * n) second ++ (list ++ drop (length second - (4 + 3 * n)) (drop (4 + 3 * n) second)))
       (Ok (4 + 3 * n + 2 * m))

@@ -1,6 +1,7 @@
 -- There and back, in the words of the contracts of reader and writer: what is written is read as the commands that were handed over,
 -- and what is read from an accepted sheet, handed over again, is written as the same bytes. Rests on the writer's RoundTrips and
 -- NoneLost, and on the reader's GoodEntries.
+use Rattle.std.specs.Prelude.{None, Ok, Err, Option, Some, Result}
 use Prim.Native.Nat.{ℕ, zero, suc, ◌*◌, ◌≤◌, ◌<◌}
 use native.Mathlib.Nat.{eq-or-lt_of_le, le_of_suc-le-suc}
 use native.Mathlib.Omega.{arith}
@@ -22,13 +23,12 @@ use Rattle.sheets.proofs.Faultless.{none_faultless}
 use Rattle.sheets.proofs.Good.{one_reading}
 use Rattle.shapes.specs.Commands.{stored_command}
 use Rattle.shapes.specs.declared.SheetEntry.{SheetEntry}
-use Rattle.reader.specs.declared.Checked.TheVariants.{Good}
-use Rattle.reader.specs.declared.Read.{Read}
-use Rattle.reader.specs.declared.Read.TheVariants.{Entry, NoEntry}
 use Rattle.reader.specs.Reader.{checked, checked_number, body_at, entry_at}
 use Rattle.reader.proofs.GoodEntries.{checked_good, good_body, good_entry, reads_all}
-use Rattle.writer.specs.declared.Written.{Written}
-use Rattle.writer.specs.declared.Written.TheVariants.{Sheet as WrittenSheet, Malformed as Unholdable, Short as NoRoom}
+use Rattle.reader.specs.declared.Header.{Header}
+use Rattle.reader.specs.declared.Malformed.{Malformed}
+use Rattle.writer.specs.declared.WriteError.{WriteError}
+use Rattle.writer.specs.declared.WriteError.TheVariants.{Malformed as Unholdable, Short as NoRoom}
 use Rattle.writer.specs.Writer.{record_length, handed_number, handed_length, handed_body, handed_commands}
 use Rattle.writer.specs.Writer.{first_unholdable, Wrote, wrote, written_number}
 use Rattle.writer.proofs.Handed.{all_held, handed_count, handed_command, handed_numbered}
@@ -52,9 +52,9 @@ record_at handed (suc n) i h =
 
 -- what was written: `long` bytes at the front of the buffer
 module _ (policy n : ℕ) (handed before : List ℕ) (bytes : Bytes handed) {long : ℕ} {after : List ℕ}
-    (written : wrote policy n handed before ≡ record { answer = WrittenSheet long; buffer = after }) where
+    (written : wrote policy n handed before ≡ record { answer = Ok long; buffer = after }) where
   all_holdable : first_unholdable policy n handed ≡ none
-  all_holdable = ((exactly policy n handed before (WrittenSheet long) after).0 written).0
+  all_holdable = ((exactly policy n handed before (Ok long) after).0 written).0
 
   -- it is the sheet of the commands that were handed over
   pub written_is_sheet : Sheet (take long after) (read_policy policy) (handed_commands handed n)
@@ -64,7 +64,7 @@ module _ (policy n : ℕ) (handed before : List ℕ) (bytes : Bytes handed) {lon
       (asked_is_sheet policy n handed bytes all_holdable)
 
   -- it is checked as good, with the policy and the count
-  pub written_is_good : checked (take long after) ≡ Good policy n
+  pub written_is_good : checked (take long after) ≡ Ok (record { policy = policy; count = n })
   written_is_good =
       let reads = written_reads_back policy n handed before bytes long after written in
       (checked_good (take long after) policy n).1
@@ -72,34 +72,40 @@ module _ (policy n : ℕ) (handed before : List ℕ) (bytes : Bytes handed) {lon
 
   -- and entry i is read as command i of those that were handed over
   pub written_is_read : (i : ℕ) {c : Command} → get_elem? (handed_commands handed n) i ≡ some c
-      → entry_at (take long after) i ≡ Entry (record { number = number c; command = stored_command c })
+      → entry_at (take long after) i ≡ Some (record { number = number c; command = stored_command c })
   written_is_read i e = reads_all written_is_sheet i e
 
   -- .. which is the number and the command of record i
   pub record_is_read : (i : ℕ) → i < n
       → entry_at (take long after) i
-      ≡ Entry (record { number = handed_number handed i; command = stored_command (handed_command handed i) })
+      ≡ Some (record { number = handed_number handed i; command = stored_command (handed_command handed i) })
   record_is_read i h =
       written_is_read i (record_at handed n i h)
-      ∙ ap (λ (k : ℕ). Entry (record { number = k; command = stored_command (handed_command handed i) }))
+      ∙ ap (λ (k : ℕ). Some (record { number = k; command = stored_command (handed_command handed i) }))
       (handed_numbered handed bytes i ((all_held policy n handed all_holdable).1.each i h))
 
 -- no two lists of commands, and no two policies, share a sheet
-same_good : {policy n policy' n' : ℕ} → Good policy n ≡ Good policy' n' → (policy ≡ policy') × (n ≡ n')
-same_good e = (cc, cc)
+abbrev header_in : Result Header Malformed → Header
+header_in (Ok header) = header
+header_in (Err fault) = record { policy = 0; count = 0 }
+
+same_good : {policy n policy' n' : ℕ} {r : Result Header Malformed} → r ≡ Ok (record { policy = policy; count = n })
+    → r ≡ Ok (record { policy = policy'; count = n' })
+    → (policy ≡ policy') × (n ≡ n')
+same_good e f = let same = ap header_in (sym e ∙ f) in (ap (λ (h : Header). h.policy) same, ap (λ (h : Header). h.count) same)
 
 pub no_sheet_shared : (policy n : ℕ) (handed before : List ℕ) → Bytes handed → {long : ℕ} {after : List ℕ}
-    → wrote policy n handed before ≡ record { answer = WrittenSheet long; buffer = after }
+    → wrote policy n handed before ≡ record { answer = Ok long; buffer = after }
     → (policy' n' : ℕ) (handed' before' : List ℕ)
     → Bytes handed'
     → {long' : ℕ} {after' : List ℕ}
-    → wrote policy' n' handed' before' ≡ record { answer = WrittenSheet long'; buffer = after' }
+    → wrote policy' n' handed' before' ≡ record { answer = Ok long'; buffer = after' }
     → take long after ≡ take long' after'
     → (policy ≡ policy') × (n ≡ n') × (handed_commands handed n ≡ handed_commands handed' n')
 no_sheet_shared policy n handed before bytes w policy' n' handed' before' bytes' w' same =
     let good = written_is_good policy n handed before bytes w in
     let good' = written_is_good policy' n' handed' before' bytes' w' in
-    let (p, m) = same_good (sym good ∙ ap checked same ∙ good') in
+    let (p, m) = same_good (ap checked (sym same) ∙ good) good' in
     let sheet = written_is_sheet policy n handed before bytes w in
     let sheet' = written_is_sheet policy' n' handed' before' bytes' w' in
     (p, m, (one_reading (rw same at sheet) sheet').1)
@@ -107,16 +113,16 @@ no_sheet_shared policy n handed before bytes w policy' n' handed' before' bytes'
 -- entry i of a sheet, handed over again: the number that is read, the body's length and the body
 pub record HandsOn (s handed : List ℕ) (i : ℕ) : Type 0 where
   pub entry : SheetEntry
-  pub read : entry_at s i ≡ Entry entry
+  pub read : entry_at s i ≡ Some entry
   pub whole : record_length * suc i ≤ length handed
   pub its_number : handed_number handed i ≡ entry.number
   pub its_length : handed_length handed i ≡ length (body_at s i)
   pub its_body : handed_body handed i ≡ body_at s i
 
 -- the number that an entry states
-stated_number : Read → ℕ
-stated_number (Entry entry) = entry.number
-stated_number NoEntry = 0
+stated_number : Option SheetEntry → ℕ
+stated_number (Some entry) = entry.number
+stated_number None = 0
 
 module _ (s : List ℕ) (good : first_fault s ≡ none) (handed : List ℕ) (i : ℕ) (inside : i < count s) where
   body_long : length (body_at s i) ≡ body_length (entry_number s i)
@@ -137,10 +143,10 @@ module _ (s : List ℕ) (good : first_fault s ≡ none) (handed : List ℕ) (i :
       }
 
 -- an accepted sheet ..
-module _ (s : List ℕ) (bytes : Bytes s) {policy n : ℕ} (accepted : checked s ≡ Good policy n) where
+module _ (s : List ℕ) (bytes : Bytes s) {policy n : ℕ} (accepted : checked s ≡ Ok (record { policy = policy; count = n })) where
   -- .. whose entries are handed over again is written as the same bytes
   pub written_again : (handed : List ℕ) → ((i : ℕ) → i < n → HandsOn s handed i) → (before : List ℕ) → length s ≤ length before
-      → wrote policy n handed before ≡ record { answer = WrittenSheet (length s); buffer = over s before }
+      → wrote policy n handed before ≡ record { answer = Ok (length s); buffer = over s before }
   written_again handed hands before room =
       let g = (checked_good s policy n).0 accepted in
       let again : (i : ℕ) → i < count s → Hands s handed i =
@@ -155,25 +161,25 @@ module _ (s : List ℕ) (bytes : Bytes s) {policy n : ℕ} (accepted : checked s
   -- no accepted sheet is lost: some records are written as it
   pub not_lost : (handed : List ℕ) × Bytes handed
       × ((before : List ℕ) → length s ≤ length before
-      → wrote policy n handed before ≡ record { answer = WrittenSheet (length s); buffer = over s before })
+      → wrote policy n handed before ≡ record { answer = Ok (length s); buffer = over s before })
   not_lost =
       let g = (checked_good s policy n).0 accepted in
       rw (← g.its_policy, ← g.its_count) (none_lost s bytes g.no_fault)
 
 -- Of the calls from C: a number below 65,536 is the length of a sheet that was written
-sheet_told : (w : Written) (long : ℕ) → long < 65536 → answer_number 0 long ≡ written_number w → w ≡ WrittenSheet long
+sheet_told : (w : Result ℕ WriteError) (long : ℕ) → long < 65536 → answer_number 0 long ≡ written_number w → w ≡ Ok long
 unfolding written_number answer_number
-sheet_told (WrittenSheet l) long h e = let same : l ≡ long = omega arith in ap WrittenSheet same
-sheet_told (Unholdable place) long h e = absurd (omega arith)
-sheet_told NoRoom long h e = absurd (omega arith)
+sheet_told (Ok l) long h e = let same : l ≡ long = omega arith in ap Ok same
+sheet_told (Err (Unholdable place)) long h e = absurd (omega arith)
+sheet_told (Err NoRoom) long h e = absurd (omega arith)
 
-same_wrote : (w : Wrote) {answer : Written} {buffer : List ℕ} → w.answer ≡ answer → buffer ≡ w.buffer
+same_wrote : (w : Wrote) {answer : Result ℕ WriteError} {buffer : List ℕ} → w.answer ≡ answer → buffer ≡ w.buffer
     → w ≡ record { answer = answer; buffer = buffer }
 same_wrote w e f = λ i. record { answer = e i; buffer = sym f i }
 
 pub call_wrote : (policy n : ℕ) (handed before after : List ℕ) (long : ℕ) → long < 65536
     → SheetWritten policy n handed before after (answer_number 0 long)
-    → wrote policy n handed before ≡ record { answer = WrittenSheet long; buffer = after }
+    → wrote policy n handed before ≡ record { answer = Ok long; buffer = after }
 call_wrote policy n handed before after long h called =
     same_wrote (wrote policy n handed before) (sheet_told (wrote policy n handed before).answer long h called.number) called.buffer
 

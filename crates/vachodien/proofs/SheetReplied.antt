@@ -13,12 +13,12 @@ use Rattle.sheets.specs.Reports.{malformed, reported, is_malformed, has_run as r
 use Rattle.sheets.specs.Calls.{answer_number, over, report_into, call}
 use Rattle.sheets.proofs.Reports.{records_length}
 use Rattle.sheets.proofs.Calls.{over_front}
-use Rattle.reader.specs.declared.Checked.TheVariants.{Good, Malformed}
 use Rattle.running.specs.declared.Ran.{Ran}
 use Rattle.token.specs.Known.{marked_keys}
 use Rattle.running.specs.Run.{RanSheet}
 use Rattle.running.proofs.RunTold.{fault_told, has_run, answers_counted, known_told}
-use Rattle.vachodien.specs.declared.Short.{Short}
+use Rattle.reader.specs.declared.Malformed.{Malformed}
+use Rattle.token.specs.declared.Short.{Short}
 use Rattle.vachodien.specs.declared.CallError.{CallError}
 use Rattle.vachodien.specs.declared.CallError.TheVariants.{Malformed as MalformedAt, Short as NoRoom}
 use Rattle.vachodien.specs.Replied.{CalledOn, left_report, reported_as, put_as, reported_number, call_number, ReportedInto}
@@ -41,18 +41,22 @@ no_room (Err why) x short h e = rw (h, e) refl
 
 module _ {s start records : List ℕ} {r : Ran} (ran : RanSheet s start records r) where
   -- a malformed sheet
-  pub malformed_called : {place : ℕ} → r.checked ≡ Malformed place → (before : List ℕ)
-      → CalledOn s before before (call_number (Err (MalformedAt place)))
+  pub malformed_called : {fault : Malformed} → r.checked ≡ Err fault → (answer : Result ℕ CallError)
+      → IsErrAnd answer (λ e. e ≡ MalformedAt fault.place)
+      → (before : List ℕ)
+      → CalledOn s before before (call_number answer)
   unfolding call call_number
-  malformed_called {place} e before =
-      record {
-        the_reply = malformed place;
+  malformed_called e (Ok given) told before = absurd told
+  malformed_called {fault} e (Err why) told before =
+      rw told
+      (record {
+        the_reply = malformed fault.place;
         replies = is_malformed (fault_told ran e);
         is = refl;
-      }
+      })
 
   -- a good one: what was said, and the state at the end
-  module _ {policy n : ℕ} (e : r.checked ≡ Good policy n) where
+  module _ {policy n : ℕ} (e : r.checked ≡ Ok (record { policy = policy; count = n })) where
     -- the report of what a run leaves is the report of the run
     report_is : left_report n records r.token ≡ report_bytes (has_run ran e).said (marked_keys r.token.table.entries)
     unfolding left_report report_bytes

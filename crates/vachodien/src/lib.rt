@@ -3,19 +3,16 @@
 
 ghost use Rattle.std.specs.Prelude.{◌≡◌};
 ghost use Rattle.reader.specs.Reader.{checked, checked_number};
-ghost use Rattle.vachodien.specs.declared.CallError.TheVariants.{Short as NoRoom};
-ghost use Rattle.vachodien.specs.Replied.{CalledOn, SheetWritten, call_number};
+ghost use Rattle.vachodien.specs.Replied.{CalledOn, SheetWritten, call_number, of_write_error};
+ghost use Rattle.vachodien.specs.declared.CallError.TheVariants.{Malformed as At, Short as NoRoom};
 
-use reader::{Checked, check};
+use reader::{Malformed, check};
 use report::report;
 use running::run;
-use writer::{Written, write};
+use token::Short;
+use writer::{WriteError, write};
 
 mod report;
-
-// A buffer that has no room for the report.
-#[derive(Clone, Copy)]
-pub struct Short;
 
 // Why a call gives neither a count nor a length: what was handed over is malformed at a place, or the buffer is too short.
 #[derive(Clone, Copy)]
@@ -24,11 +21,30 @@ enum CallError {
     Short,
 }
 
+impl From<Malformed> for CallError {
+    ghost from_gives = { λ fault e. e ≡ At fault.place };
+
+    fn from(fault: Malformed) -> CallError {
+        CallError::Malformed(fault.place)
+    }
+}
+
 impl From<Short> for CallError {
     ghost from_gives = { λ _ e. e ≡ NoRoom };
 
     fn from(_short: Short) -> CallError {
         CallError::Short
+    }
+}
+
+impl From<WriteError> for CallError {
+    ghost from_gives = { λ w e. e ≡ of_write_error w };
+
+    fn from(error: WriteError) -> CallError {
+        match error {
+            WriteError::Malformed(place) => CallError::Malformed(place),
+            WriteError::Short => CallError::Short,
+        }
     }
 }
 
@@ -50,11 +66,8 @@ fn reported(sheet: &[u8], buffer: &mut [u8]) -> Result<u16, CallError>
 {
     let mut records = [0u8; 12288];
     let ran = run(sheet, &mut records);
-    let count = match ran.checked {
-        Checked::Good(_, count) => count,
-        Checked::Malformed(place) => return Err(CallError::Malformed(place)),
-    };
-    Ok(report(count, &records, ran.token, buffer)?)
+    let header = ran.checked?;
+    Ok(report(header.count, &records, ran.token, buffer)?)
 }
 
 // The whole job. The number given is the answer times 65,536, plus the report length for 0, the place for 12, nothing for 13.
@@ -69,10 +82,7 @@ pub fn vachodien_report(sheet: &[u8], buffer: &mut [u8]) -> u32
 fn counted(sheet: &[u8]) -> Result<u16, CallError>
     ensures { call_number result ≡ checked_number (checked sheet.now) }
 {
-    match check(sheet) {
-        Checked::Good(_policy, count) => Ok(count),
-        Checked::Malformed(place) => Err(CallError::Malformed(place)),
-    }
+    Ok(check(sheet)?.count)
 }
 
 // Checks a sheet and runs nothing: 0 with the count of a good sheet, 12 with the place of a malformed one.
@@ -87,11 +97,7 @@ pub fn vachodien_check(sheet: &[u8]) -> u32
 fn written(policy: u8, count: u16, handed: &[u8], sheet: &mut [u8]) -> Result<u16, CallError>
     ensures { SheetWritten policy count handed.now sheet.old sheet.new (call_number result) }
 {
-    match write(policy, count, handed, sheet) {
-        Written::Sheet(long) => Ok(long),
-        Written::Malformed(place) => Err(CallError::Malformed(place)),
-        Written::Short => Err(CallError::Short),
-    }
+    Ok(write(policy, count, handed, sheet)?)
 }
 
 // Writes the sheet of commands that are handed over in records of six bytes: 0 with the sheet's length, 12 with the place of what no

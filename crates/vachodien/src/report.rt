@@ -5,8 +5,7 @@ ghost use Rattle.sheets.specs.Calls.{over};
 ghost use Rattle.sheets.specs.Sheets.{most_commands};
 ghost use Rattle.vachodien.specs.Replied.{ReportedInto};
 
-use crate::Short;
-use token::Token;
+use token::{Short, Token};
 use token::known::{known_count, known_keys};
 
 // How many commands there are, and how many known keys.

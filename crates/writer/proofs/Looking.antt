@@ -1,16 +1,15 @@
 -- Looking through what is handed over, command by command: either no sheet can hold the next one, which is then named, or its
 -- body's length is added. Rests on Handed.
 use Prim.Native.Nat.{ℕ, suc, ◌+◌, ◌*◌, ◌≤◌, ◌<◌}
-use native.Mathlib.Nat.{not-suc-le-zero, eq-or-lt_of_le, le_of_suc-le-suc}
 use native.Mathlib.Numerals.{add-one}
 use native.Mathlib.Omega.{arith}
 use mathlib.Core.Path.{◌≡◌, sym, ap, ◌∙◌}
 use mathlib.Core.Bool.{true, false, or-true}
 use mathlib.Core.List.{List}
-use mathlib.Core.Logic.{⊎_elim}
 use mathlib.Core.Option.{some}
 use lib.Dec.{ltb}
 use lib.ListN.{length}
+use borrow.Author.Count.{below_none, below_more}
 use borrow.Author.Tests.{lt-ltb, le-ltb}
 use Rattle.sheets.specs.Bytes.{Bytes}
 use Rattle.sheets.specs.Sheets.{most_commands, bodies, bodies_begin}
@@ -33,7 +32,7 @@ module _ (policy n : ℕ) (handed : List ℕ) (long : ℕ) where
   fault_0 e =
       named 0
       ((smallest_some (unholdable policy n handed) (suc n) 0).1
-      (record { in_range = omega arith; passes = e; none_before = λ j h. absurd (not-suc-le-zero h) }))
+      (record { in_range = omega arith; passes = e; none_before = below_none (λ j. unholdable policy n handed j ≡ false) }))
 
   pub policy_above : 2 < policy → Err (Malformed 0) ≡ found_as (first_unholdable policy n handed) long
   unfolding unholdable
@@ -81,10 +80,8 @@ module _ (policy n : ℕ) (handed : List ℕ) (i long : ℕ) (so_far : Looking p
         in_range = omega arith;
         few = so_far.few;
         none_yet =
-            rw add-one
-            (λ (j : ℕ) (l : j < suc (suc i)).
-            ⊎_elim (λ (q : j ≡ suc i). ap (unholdable policy n handed) q ∙ passes handed i policy n held) (so_far.none_yet j)
-            (eq-or-lt_of_le (le_of_suc-le-suc l)));
+            λ (j : ℕ) (l : j < suc (i + 1)).
+            below_more (λ k. unholdable policy n handed k ≡ false) (suc i) so_far.none_yet (passes handed i policy n held) j (omega arith);
         so_long = rw add-one (omega (arith, so_far.so_long, ap length same, bodies_next_length handed bytes i held));
       }
 

@@ -5,21 +5,19 @@ use native.Mathlib.Numerals.{add-one}
 use native.Mathlib.Omega.{arith}
 use mathlib.Core.Path.{◌≡◌, refl, sym, ap, ◌∙◌}
 use mathlib.Core.List.{List, [], ◌∷◌, ◌++◌, append_assoc, append-nil}
-use lib.ListN.{length, get_or, take, drop, set, length-append, length-drop, drop_of_length-le}
-use lib.Seq.{drop-drop, take_all, take-length, take_at, drop_at, paste, paste-zero, paste-suc, length-paste}
+use lib.ListN.{length, get_or, take, drop, set, length-append, length-drop}
+use lib.Seq.{drop-drop, take-length, take_at, drop_at, paste, paste-zero, paste-suc, length-paste}
 use borrow.Rule.Slice.PartMut.{put_mid}
+use Rattle.std.proofs.lemmas.List.{take_rest, drop_all}
 use Rattle.sheets.specs.Bytes.{two}
 use Rattle.sheets.specs.Calls.{over}
 
 -- the part of a buffer behind the first `at` places, as it is lent, is all that is left of it
-lent_whole : (l : List ℕ) (at : ℕ) → take (length l - at) (drop at l) ≡ drop at l
-lent_whole l at = take_all (length l - at) (drop at l) (rw length-drop (omega arith))
-
 pub lent_length : (l : List ℕ) (at : ℕ) → length (take (length l - at) (drop at l)) ≡ length l - at
-lent_length l at = rw lent_whole (length-drop at l)
+lent_length l at = rw take_rest (length-drop at l)
 
 none_behind : (l : List ℕ) (at : ℕ) → drop (length l - at) (drop at l) ≡ []
-none_behind l at = drop_of_length-le (drop at l) {i = length l - at} (rw length-drop (omega arith))
+none_behind l at = drop_all (length l - at) (drop at l) (rw length-drop (omega arith))
 
 -- w stands over the front of a buffer
 module _ (w before : List ℕ) (at : ℕ) (out : List ℕ) (so_long : length w ≡ at) (written : out ≡ over w before) where
@@ -47,7 +45,7 @@ module _ (w e before : List ℕ) (at : ℕ) (out back : List ℕ) (so_long : len
   back_is : back ≡ e ++ drop (at + length e) before
   unfolding over
   back_is =
-      more ∙ ap (over e) (lent_whole out at ∙ rest_is w before at out so_long written)
+      more ∙ ap (over e) (take_rest out at ∙ rest_is w before at out so_long written)
       ∙ ap (λ (l : List ℕ). e ++ l) (drop-drop (length e) at before)
 
   pub over_lent : take at out ++ (back ++ drop (length out - at) (drop at out)) ≡ over (w ++ e) before

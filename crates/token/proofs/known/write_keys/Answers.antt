@@ -1,38 +1,47 @@
--- `write_keys` meets its contract: what is written is what the entries not passed yet leave to write (ApiWritten).
-use Rattle.std.proofs.Common.{rules, ◌≡◌, ◌∙◌, ◌<◌, ◌+◌, ◌-◌, ◌/◌, ◌%◌, ◌^◌, ℕ, sym, refl, arith, length}
+-- `write_keys` meets its contract: after so many entries of known keys, so many keys are written (ApiWritten).
+use Rattle.std.proofs.Common.{rules, tests, ◌≡◌, ◌∙◌, ◌<◌, ◌+◌, ◌-◌, ◌/◌, ◌%◌, ◌^◌, ℕ, ◌*◌, ◌++◌, ◌∷◌, [], ap, refl, arith, length, take, take_all, get_or}
+use Rattle.std.proofs.lemmas.Iterator.Consumers.{YieldsList-at}
+use lib.ListN.{length-append}
 use Rattle.sheets.specs.Bytes.{two}
-use Rattle.token.proofs.ApiWritten.{writing_other, writing_room, writing_one, writing_all}
+use Rattle.sheets.specs.Reports.{keys_bytes}
+use Rattle.sheets.specs.Calls.{over}
+use Rattle.token.specs.Known.{marked_keys}
+use Rattle.token.proofs.ApiWritten.{known_walk, write_next, walk_turn, walk_end}
 use Rattle.token.proofs.known.write_keys.Goals as goal
-use Rattle.token.proofs.known.write_keys.Goals.{then-is_known, else-is_known}
+
+pub loop-i-init : goal.loop-i-init
+unfolding over keys_bytes
+loop-i-init c = refl
 
 pub slice_bounds-copy_from_slice-end : goal.slice_bounds-copy_from_slice-end
 slice_bounds-copy_from_slice-end c =
-    let whole : length c.args.entries.now ≡ 1024 = search rules in
-    omega (
-      arith,
-      writing_room _ _ _ _ _ whole c.loop-entry.invariant c.loop-entry-test.true
-          (sym c.is_known.ensures ∙ c.if-is_known.true),
-    )
+    let turn = walk_turn _ _ c.loop-i.yielded_by _ _ c.next.ensures.steps c.args.entries.now
+    (YieldsList-at c.into_iter-i-iterator.ensures.into_iter_gives (known_walk c.args.entries.now c.enumerate-i-items.ensures.source (cc) (cc)
+    c.filter-known.ensures.closure (λ x b q k. search (rules, tests))))
+    c.in-Some.i c.in-Some.entry c.in-Some.is in
+    omega (arith, turn.1, c.loop-i.auto.out, c.requires)
 
-pub loop-entry-preserved : goal.loop-entry-preserved
+pub loop-i-preserved : goal.loop-i-preserved
 unfolding two
-loop-entry-preserved c =
-    let whole : length c.args.entries.now ≡ 1024 = search rules in
-    elim c.if-is_known.branch [
-      | then-is_known w ↦
-          let k : ℕ = w.key_of.result.0 in
-          let range : k < 2 ^ 16 = search rules in
-          let high : k / 256 % 256 ≡ k / 256 = omega arith in
-          let bytes : w.copy_from_slice.new.self ≡ two k = w.copy_from_slice.ensures.after ∙ w.to_be_bytes.ensures ∙ rw high refl in
-          let places : c.loop-entry.at + 2 - c.loop-entry.at ≡ 2 = omega arith in
-          rw (w.at-is, w.out-is, places, bytes, w.key_of.ensures) (writing_one _ _ _ _ _ whole c.loop-entry.invariant c.loop-entry-test.true
-          (sym c.is_known.ensures ∙ w.if-is_known.true))
-      | else-is_known w ↦
-          rw (w.at-is, w.out-is) (writing_other _ _ _ _ _ whole c.loop-entry.invariant c.loop-entry-test.true
-          (sym c.is_known.ensures ∙ w.if-is_known.false))
-    ]
+loop-i-preserved c =
+    let turn = walk_turn _ _ c.loop-i.yielded_by _ _ c.next.ensures.steps c.args.entries.now
+    (YieldsList-at c.into_iter-i-iterator.ensures.into_iter_gives (known_walk c.args.entries.now c.enumerate-i-items.ensures.source (cc) (cc)
+    c.filter-known.ensures.closure (λ x b q k. search (rules, tests))))
+    c.in-Some.i c.in-Some.entry c.in-Some.is in
+    let k : ℕ = c.key_of.result.0 in
+    let range : k < 2 ^ 16 = search rules in
+    let high : k / 256 % 256 ≡ k / 256 = omega arith in
+    let bytes : c.copy_from_slice.new.self ≡ two k = c.copy_from_slice.ensures.after ∙ c.to_be_bytes.ensures ∙ rw high refl in
+    let places : 2 * c.in-Some.i + 2 - 2 * c.in-Some.i ≡ 2 = omega arith in
+    let next : length (c.loop-i.yielded ++ (c.in-Some.i, c.in-Some.entry) ∷ []) ≡ c.in-Some.i + 1 = length-append c.loop-i.yielded _ ∙ omega (arith, turn.0) in
+    let this : k ≡ get_or (marked_keys c.args.entries.now) c.in-Some.i 0 = ap (λ x. x.0) c.key_of.ensures ∙ turn.2 in
+    let so_far : c.loop-i.out ≡ over (keys_bytes (take c.in-Some.i (marked_keys c.args.entries.now))) c.args.out.now = rw turn.0 c.loop-i.invariant in
+    rw (places, bytes, next, so_far, this) (write_next (marked_keys c.args.entries.now) c.args.out.now c.in-Some.i turn.1)
 
 pub returns : goal.returns
 returns c =
-    let whole : length c.args.entries.now ≡ 1024 = search rules in
-    writing_all _ _ _ _ _ whole c.loop-entry.invariant c.loop-entry-test.false
+    let whole = walk_end _ _ c.loop-i.yielded_by _ _ c.next.ensures.steps c.args.entries.now
+    (YieldsList-at c.into_iter-i-iterator.ensures.into_iter_gives (known_walk c.args.entries.now c.enumerate-i-items.ensures.source (cc) (cc)
+    c.filter-known.ensures.closure (λ x b q k. search (rules, tests))))
+    c.in-None.is in
+    c.loop-i.invariant ∙ rw (whole, take_all (length (marked_keys c.args.entries.now)) (marked_keys c.args.entries.now) (omega arith)) refl

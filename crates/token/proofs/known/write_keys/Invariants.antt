@@ -1,6 +1,9 @@
--- `write_keys` meets its contract: what is written is what the entries not passed yet leave to write (ApiWritten).
-use Rattle.token.proofs.ApiWritten.{Writing}
+-- `write_keys` meets its contract: after so many entries of known keys, so many keys are written (ApiWritten).
+use Rattle.std.proofs.Common.{◌≡◌, length, take}
+use Rattle.sheets.specs.Reports.{keys_bytes}
+use Rattle.sheets.specs.Calls.{over}
+use Rattle.token.specs.Known.{marked_keys}
 use Rattle.token.proofs.known.write_keys.Given as goal
 
-abbrev pub invariant-loop-entry : goal.invariant-loop-entry
-invariant-loop-entry l = Writing l.entries l.initial.out l.entry-index l.at l.out
+abbrev pub invariant-loop-i : goal.invariant-loop-i
+invariant-loop-i l = l.out ≡ over (keys_bytes (take (length l.yielded) (marked_keys l.entries))) l.initial.out

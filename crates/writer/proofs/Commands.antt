@@ -29,7 +29,3 @@ module _ (handed : List ℕ) (i : ℕ) where
   pub found : (r : Option Handed) → Held handed i → CommandAt handed i r → IsSome r
   found None held at = absurd (true≢false (sym (at 0 0) ∙ passes handed i 0 0 held))
   found (Some c) held at = refl
-
-  pub some_found : {r : Option Handed} (command : Handed) → r ≡ Some command → CommandAt handed i r
-      → CommandAt handed i (Some command)
-  some_found command e at = subst (λ (d : Option Handed). CommandAt handed i d) e at

@@ -6,7 +6,7 @@ use native.Mathlib.Omega.{arith}
 use mathlib.Core.Path.{◌≡◌, refl, sym, ap, ◌∙◌}
 use mathlib.Core.List.{List, [], ◌∷◌, ◌++◌, append_assoc, append-nil}
 use lib.ListN.{length, get_or, take, drop, set, length-append, length-drop}
-use lib.Seq.{drop-drop, take-length, take_at, drop_at, paste, paste-zero, paste-suc, length-paste}
+use lib.Seq.{drop-drop, take-length, take_at, drop_at, paste, paste-suc, length-paste}
 use borrow.Rule.Slice.PartMut.{put_mid}
 use Rattle.std.proofs.lemmas.List.{take_rest, drop_all}
 use Rattle.sheets.specs.Bytes.{two}
@@ -70,9 +70,6 @@ over_three a number out back h few e =
     rw (e, high) (over_put (a ∷ []) (two number) out 1 2 (set out 0 a) refl refl (one a out (omega arith)))
 
 -- bytes copied one by one
-pub copied_none : (bytes before : List ℕ) → before ≡ paste before 0 bytes 0
-copied_none bytes before = paste-zero before 0 bytes
-
 pub copied_next : (bytes before out : List ℕ) (i : ℕ) → length bytes ≤ length before → i < length bytes
     → out ≡ paste before 0 bytes i → set out i (get_or bytes i 0) ≡ paste before 0 bytes (i + 1)
 copied_next bytes before out i room h e =

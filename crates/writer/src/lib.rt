@@ -19,7 +19,8 @@ pub enum WriteError {
     Short,
 }
 
-// Looks through all that is handed over before anything is written: the length of its sheet.
+// Looks through all that is handed over before anything is written: the length of its sheet. Policy, count and what is handed over
+// come apart here, since an `Asked` is what was looked through.
 fn look_through(policy: u8, count: u16, handed: &[u8]) -> Result<usize, WriteError>
     ensures { result ≡ found_as (first_unholdable policy count handed.now) (length (asked_sheet policy count handed.now)) }
 {

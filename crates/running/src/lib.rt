@@ -64,8 +64,7 @@ pub fn call(token: Token, policy: u8, number: u8, body: &[u8]) -> Called
 
 // What is said as numbers of document 01's table: the answer, and the value.
 pub fn numbers(said: Result<u16, Refusal>) -> (u8, u16)
-    ensures answer { result.0 ≡ answer_of said }
-    ensures value { result.1 ≡ value_of said }
+    ensures { (result.0 ≡ answer_of said) × (result.1 ≡ value_of said) }
 {
     match said {
         Ok(value) => (0, value),

@@ -5,8 +5,8 @@ ghost use Rattle.sheets.specs.Calls.{over};
 ghost use Rattle.sheets.specs.Sheets.{most_commands};
 ghost use Rattle.vachodien.specs.Replied.{ReportedInto};
 
-use token::{Short, Token};
 use token::known::{known_count, known_keys};
+use token::{Short, Token};
 
 // How many commands there are, and how many known keys.
 fn put_counts(n: u16, m: u16, out: &mut [u8])

@@ -1,5 +1,4 @@
 -- The commands of a sheet, run on a token where it stands: what holds after each, and how the next goes on. Rests on StepShown.
-use Rattle.running.specs.Views.{Findable}
 use Prim.Native.Nat.{ℕ, zero, suc, ◌+◌, ◌*◌, ◌≤◌, ◌<◌}
 use mathlib.Core.Path.{◌≡◌, refl, sym, ◌∙◌, ap, subst}
 use mathlib.Core.List.{List, [], ◌∷◌, ◌++◌}
@@ -8,12 +7,11 @@ use native.Mathlib.Numerals.{add-one}
 use lib.ListN.{length, length-set, length-append}
 use Rattle.rules.specs.Templates.{Policy}
 use Rattle.rules.specs.Commands.{Command}
-use Rattle.rules.specs.State.{State, most_terms, most_handles}
+use Rattle.rules.specs.State.{State}
 use Rattle.rules.specs.Runs.{Answer, Run, ends, then, Reachable}
 use Rattle.rules.proofs.Prefixes.{run_append, one_answer_each}
-use Rattle.rules.proofs.SoundKept.{sound}
 use Rattle.sheets.specs.Bytes.{Bytes}
-use Rattle.sheets.specs.Sheets.{Holdable, most_commands}
+use Rattle.sheets.specs.Sheets.{Holdable}
 use Rattle.sheets.specs.Reports.{records_bytes}
 use Rattle.sheets.specs.Calls.{over}
 use Rattle.sheets.specs.Reading.{read_commands}
@@ -31,7 +29,6 @@ use Rattle.running.specs.Direct.{ComesFrom, Reached}
 use Rattle.reader.proofs.GoodEntries.{good_entry}
 use Rattle.running.specs.Said.{answer_of, value_of}
 use Rattle.running.specs.Advance.{record_put, decision_on, CanStep, Stepped, RunAsks, Ran}
-use Rattle.running.proofs.ShownCounts.{few_keys}
 use Rattle.running.proofs.StepShown.{findable, step_applicable, step_stepped}
 use Rattle.running.proofs.RecordsWritten.{written_next}
 
@@ -70,12 +67,6 @@ advance_begins {before = before} asks bytes =
       so_far = λ p state comes. record { said = []; end = state; run = ends; shows_end = comes.shown; written = refl };
     }
 
--- the state that a token shows on its way
-pub record OnTheWay (policy : ℕ) (t : Token) : Type 0 where
-  pub under : Policy
-  pub state : State
-  pub comes : ComesFrom t policy under state
-
 module _ {policy : ℕ} {s : List ℕ} {n : ℕ} {before : List ℕ} {start : Token} {i : ℕ} {records : List ℕ} {t : Token}
     (adv : AdvancedTo policy s n before start i records t) where
   -- the token comes from a fresh one still
@@ -90,41 +81,10 @@ module _ {policy : ℕ} {s : List ℕ} {n : ℕ} {before : List ℕ} {start : To
       let r = adv.asks.reached in
       record { under = r.under; state = (adv.so_far r.under r.state r.comes).end; comes = goes_on r.under r.state r.comes }
 
-  pub slots_whole : length t.hands.slots ≡ most_handles
-  slots_whole = still_reached.comes.shown.hands_shown.slots_length
-
-  pub entries_whole : length t.table.entries ≡ most_terms
-  entries_whole = still_reached.comes.shown.entries_length
-
-  pub chains_found : Findable t.links.heads t.links.chain t.links.codes
-  chains_found = findable still_reached.comes.shown
-
-  pub terms_few : t.table.terms ≤ most_terms
-  terms_few = let shown = still_reached.comes.shown in omega (arith, shown.terms_shown, shown.room)
-
-  pub keys_few : t.table.keys ≤ most_terms
-  keys_few =
-      let shown = still_reached.comes.shown in
-      let few = few_keys (sound still_reached.comes.reachable) in
-      omega (arith, shown.keys_shown, shown.room, few)
-
-  -- there are at most 4,096 commands
-  pub few : n ≤ most_commands
-  few = let good = (none_faultless s).0 adv.asks.good in omega (arith, good.header.few, adv.asks.counted)
-
-  -- at the end all commands are run
-  pub all_run : n ≤ i → Ran start policy s n before records t
-  all_run h =
-      let done : i ≡ n = omega (arith, adv.within) in
-      subst (λ (k : ℕ). Ran start policy s k before records t) done adv.so_far
-
   -- the next command's record has room
   module _ (more : i < n) where
     room : 3 * i + 3 ≤ length before
     room = omega (arith, more, adv.asks.room)
-
-    pub record_room : 3 * i + 3 ≤ length records
-    record_room = omega (arith, room, adv.same_length)
 
     -- the next entry is there
     pub entry_there : IsSome (entry_at s i)

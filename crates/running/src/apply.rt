@@ -1,13 +1,14 @@
 // Making a change in the token's parts.
-ghost use Rattle.std.specs.Prelude.{◌≡◌, ◌<◌};
+ghost use Rattle.std.specs.Prelude.{◌≡◌, ◌<◌, is_some};
 ghost use Rattle.rules.specs.State.{most_terms};
-ghost use Rattle.token.specs.Shows.{entry as entry_with};
+ghost use Rattle.deciding.specs.Decisions.{slot_in};
 ghost use Rattle.running.specs.Applied.{Applicable, Applied, SlotSet, appended};
 
 use crate::leaks::follow;
 use crate::link::link;
 use deciding::Change;
 use handles::set;
+use shapes::entries::is_key;
 use shapes::{Entry, HandleNo, KeyNo, Marks, Slot, Term, TermNo};
 use token::{Hands, Table, Token};
 
@@ -18,24 +19,40 @@ const BLANK: Slot = Slot {
     flags: 0,
 };
 
-// The handle is live and stands for this slot, or is not and has this one.
-fn put(hands: &mut Hands, h: HandleNo, slot: Slot, live: bool)
-    ensures { SlotSet hands.old h.0 slot live hands.new }
+// The marks of a term that is entered: a key that the token generates; what is the caller's own; what is given to the caller.
+const GENERATED: Marks = Marks {
+    held: false,
+    own: false,
+};
+
+const OWN: Marks = Marks {
+    held: true,
+    own: true,
+};
+
+const GIVEN: Marks = Marks {
+    held: true,
+    own: false,
+};
+
+// The handle is live and stands for the slot's key; it is dead where there is none.
+fn put(hands: &mut Hands, h: HandleNo, slot: Option<Slot>)
+    ensures { SlotSet hands.old h.0 (slot_in slot) (is_some slot) hands.new }
 {
-    hands.slots[h.0 as usize] = slot;
-    hands.live = set(hands.live, h, live);
+    hands.slots[h.0 as usize] = slot.unwrap_or(BLANK);
+    hands.live = set(hands.live, h, slot.is_some());
 }
 
-// One more entry, and one more key where it is a key's.
-fn append(table: &mut Table, term: Term, held: bool, own: bool)
+// One more term, and one more key where it is a key.
+fn append(table: &mut Table, term: Term, marks: Marks)
     requires terms_few { table.old.terms < most_terms }
     requires keys_few { table.old.keys < most_terms }
-    ensures { table.new ≡ appended table.old (entry_with term held own) }
+    ensures { table.new ≡ appended table.old (record { term = term; marks = marks }) }
 {
-    let marks = Marks { held, own };
-    table.entries[table.terms as usize] = Entry { term, marks };
+    let entry = Entry { term, marks };
+    table.entries[table.terms as usize] = entry;
     table.terms += 1;
-    if let Term::Key(_) = term {
+    if is_key(entry) {
         table.keys += 1;
     }
 }
@@ -50,17 +67,17 @@ pub fn apply(token: &mut Token, change: Change)
     let keys = token.table.keys;
     match change {
         Change::Nothing => {}
-        Change::Bind(h, slot) => put(&mut token.hands, h, slot, true),
-        Change::Release(h) => put(&mut token.hands, h, BLANK, false),
+        Change::Bind(h, slot) => put(&mut token.hands, h, Some(slot)),
+        Change::Release(h) => put(&mut token.hands, h, None),
         Change::NewKey(h, flags) => {
             let (key, term) = (KeyNo(keys), TermNo(terms));
-            append(&mut token.table, Term::Key(key), false, false);
-            put(&mut token.hands, h, Slot { key, term, flags }, true);
+            append(&mut token.table, Term::Key(key), GENERATED);
+            put(&mut token.hands, h, Some(Slot { key, term, flags }));
         }
-        Change::OwnKey => append(&mut token.table, Term::Key(KeyNo(keys)), true, true),
-        Change::OwnData => append(&mut token.table, Term::Data, true, true),
+        Change::OwnKey => append(&mut token.table, Term::Key(KeyNo(keys)), OWN),
+        Change::OwnData => append(&mut token.table, Term::Data, OWN),
         Change::NewSeal(k, p, leaks) => {
-            append(&mut token.table, Term::Seal(k, p), true, false);
+            append(&mut token.table, Term::Seal(k, p), GIVEN);
             link(&mut token.links, terms, k, p);
             if leaks {
                 follow(&mut token.table, &token.links, p);

@@ -12,4 +12,4 @@ advance-requires c = run_asks _ c.check-checked.ensures c.in-Ok.is c.fresh-token
 
 pub returns-in-Ok : goal.returns-in-Ok
 returns-in-Ok c = run_leaves _ c.check-checked.ensures c.in-Ok.is c.fresh-token.ensures
-    (bytes_of _ (λ i. (c.shared_slice_known-1.given i).fits)) c.advance.ensures
+    (bytes_of _ (λ i. (c.type_inv.sheet i).fits)) c.advance.ensures

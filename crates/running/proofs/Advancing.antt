@@ -81,6 +81,12 @@ module _ {policy : ℕ} {s : List ℕ} {n : ℕ} {before : List ℕ} {start : To
       let r = adv.asks.reached in
       record { under = r.under; state = (adv.so_far r.under r.state r.comes).end; comes = goes_on r.under r.state r.comes }
 
+  -- at the end all commands are run
+  pub all_run : n ≤ i → Ran start policy s n before records t
+  all_run h =
+      let done : i ≡ n = omega (arith, adv.within) in
+      subst (λ (k : ℕ). Ran start policy s k before records t) done adv.so_far
+
   -- the next command's record has room
   module _ (more : i < n) where
     room : 3 * i + 3 ≤ length before

@@ -8,6 +8,7 @@ use crate::look::look;
 use crate::numbers;
 use deciding::Refusal;
 use deciding::decide::decide;
+use reader::Header;
 use reader::handing::read_entry;
 use shapes::Command;
 use token::Token;
@@ -35,14 +36,14 @@ fn put_record(records: &mut [u8], i: u16, said: Result<u16, Refusal>)
     records[at + 2] = low;
 }
 
-// Runs the n commands of a good sheet.
-pub fn advance(token: &mut Token, policy: u8, sheet: &[u8], n: u16, records: &mut [u8])
-    requires { RunAsks token.old policy sheet.now n records.old }
-    ensures { Ran token.old policy sheet.now n records.old records.new token.new }
+// Runs the commands of a good sheet.
+pub fn advance(token: &mut Token, sheet: &[u8], header: Header, records: &mut [u8])
+    requires { RunAsks token.old header.policy sheet.now header.count records.old }
+    ensures { Ran token.old header.policy sheet.now header.count records.old records.new token.new }
 {
-    for i in 0..n {
+    for i in 0..header.count {
         let entry = read_entry(sheet, i).unwrap();
-        let said = step(token, policy, entry.command);
+        let said = step(token, header.policy, entry.command);
         put_record(records, i, said);
     }
 }

@@ -40,7 +40,7 @@ pub fn run(sheet: &[u8], records: &mut [u8; 12288]) -> Ran
     let mut token = fresh();
     let checked = check(sheet);
     if let Ok(header) = checked {
-        advance(&mut token, header.policy, sheet, header.count, records);
+        advance(&mut token, sheet, header, records);
     }
     Ran { checked, token }
 }

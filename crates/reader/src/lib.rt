@@ -12,7 +12,8 @@ use shapes::parse::parse;
 pub mod handing;
 mod table;
 
-// What the header of a good sheet says: its policy, and how many entries it has.
+// What the header of a good sheet says: its policy, by the number that stands there, as `checked` has it and `decide` takes it; and how
+// many entries it has.
 #[derive(Clone, Copy, PartialEq, Eq)]
 pub struct Header {
     pub policy: u8,

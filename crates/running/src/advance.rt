@@ -13,7 +13,7 @@ use reader::handing::read_entry;
 use shapes::Command;
 use token::Token;
 
-// One command: its value, or why it is refused.
+// One command: its value, or why it is refused. The policy comes by its number, as `decide` takes it.
 pub fn step(token: &mut Token, policy: u8, command: Command) -> Result<u16, Refusal>
     requires { CanStep (decision_on policy command token.old) token.old }
     ensures { Stepped (decision_on policy command token.old) token.old token.new result }

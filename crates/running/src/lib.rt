@@ -26,7 +26,8 @@ pub struct Called {
     pub said: Result<u16, Refusal>,
 }
 
-// What running a sheet leaves: what the sheet was found to be, and the token at the end.
+// What running a sheet leaves: what the sheet was found to be, and the token at the end, which stands beside it since a malformed sheet
+// leaves one too, the fresh one (`NotRun`).
 #[derive(Clone, Copy)]
 pub struct Ran {
     pub checked: Result<Header, Malformed>,

@@ -21,7 +21,8 @@ pub enum Looks {
     ByCaller,
 }
 
-// The numbers that a command names, 0 where it names none, and where it looks.
+// The numbers that a command names, and where it looks. A number that it does not name is 0 and no Option: what stands at 0 is read and
+// asked nothing of (`same_decision`), and an Option would be taken apart only to read there all the same.
 #[derive(Clone, Copy)]
 pub struct Names {
     pub a: HandleNo,

@@ -11,8 +11,10 @@ use lib.ListN.{length, length-set}
 use borrow.Author.Tests.{ltb-true, ltb-false}
 use Rattle.terms.proofs.Lists.{bool_cases}
 use Rattle.rules.specs.State.{most_terms}
+use Rattle.std.specs.Prelude.{Option, None}
 use Rattle.shapes.specs.declared.Entry.{Entry}
 use Rattle.shapes.specs.declared.KeyNo.{KeyNo}
+use Rattle.shapes.specs.declared.TermNo.{TermNo}
 use Rattle.shapes.specs.declared.Term.{Term as Kind}
 use Rattle.shapes.specs.declared.Term.TheVariants.{Data, Key, Seal}
 use Rattle.token.specs.Chains.{Linked}
@@ -41,7 +43,7 @@ leak_same a b t same i (leads {q} {p} l o) =
 
 module _
     {entries : List Entry}
-    {newest older : List ℕ}
+    {newest older : List (Option TermNo)}
     {n t : ℕ}
     {k : KeyNo}
     (f : Followable entries newest older n t k)
@@ -113,7 +115,7 @@ module _
           waits (rw one (0, omega arith, same)))
           (marked_only entries t q h)
 
-      pub walk_begins : Walk (marked entries t) n t (marked entries t) waiting 0
+      pub walk_begins : Walk (marked entries t) n t (marked entries t) waiting None
       walk_begins =
           let is_key : kind_at (marked entries t) t ≡ Key k = marked_kind entries t t ∙ f.is_key in
           let source : Source (marked entries t) t k.0 = record { term = t; led = the_leak; is_key = is_key } in

@@ -6,11 +6,13 @@ use mathlib.Core.Bool.{true}
 use mathlib.Core.List.{List, [], ◌∷◌}
 use native.Mathlib.Omega.{arith}
 use lib.ListN.{length, set}
+use Rattle.std.specs.Prelude.{Option, None}
 use Rattle.rules.specs.State.{most_terms}
 use Rattle.shapes.specs.declared.Entry.{Entry}
 use Rattle.shapes.specs.declared.KeyNo.{KeyNo}
+use Rattle.shapes.specs.declared.TermNo.{TermNo}
 use Rattle.token.specs.declared.Table.{Table}
-use Rattle.token.specs.Chains.{last}
+use Rattle.token.specs.Chains.{as_number, last}
 use Rattle.token.specs.Shows.{entry}
 use Rattle.running.specs.Leaks.{kind_at, Followable}
 use Rattle.running.specs.Applied.{TableFollowed}
@@ -22,7 +24,7 @@ use Rattle.running.proofs.LeakWalk.{Walk, walk_ends}
 use Rattle.running.proofs.LeakBegin.{leak_marked, marked_ready, walk_begins, followed_before}
 
 -- `first` is the table as the loop begins, with term t held
-pub record Following (newest older : List ℕ) (first : Table) (t : ℕ) (now : Table) (waiting : List ℕ) (link : ℕ)
+pub record Following (newest older : List (Option TermNo)) (first : Table) (t : ℕ) (now : Table) (waiting : List ℕ) (link : Option TermNo)
     : Type 0 where
   pub ready : Ready first.entries newest older first.terms
   pub same_terms : now.terms ≡ first.terms
@@ -35,8 +37,8 @@ none_left {waiting = []} h = refl
 none_left {waiting = c ∷ waiting} h = absurd (h (omega arith))
 
 -- what falls with each turn: each key that waits, or may still come to wait, stands for a whole chain
-unfoldable pub left : Table → (waiting : List ℕ) → (link : ℕ) → ℕ
-left now waiting link = (length waiting + unheld now.entries) * 1025 + link
+unfoldable pub left : Table → (waiting : List ℕ) → Option TermNo → ℕ
+left now waiting link = (length waiting + unheld now.entries) * 1025 + as_number link
 
 -- an entry of the table is replaced
 abbrev pub with_entry : Table → ℕ → Entry → Table
@@ -47,7 +49,7 @@ abbrev pub HeldEntry : Table → ℕ → Entry → Type 0
 HeldEntry table p e = e ≡ entry (kind_at table.entries p) true (own_at table.entries p)
 
 module _
-    {newest older : List ℕ}
+    {newest older : List (Option TermNo)}
     (table : Table)
     {t : ℕ}
     {k : KeyNo}
@@ -57,7 +59,7 @@ module _
   where
     -- the loop begins with term t held and its key waiting
     pub follow_begins : {waiting : List ℕ} → waiting ≡ k.0 ∷ [] →
-        Following newest older (with_entry table t e) t (with_entry table t e) waiting 0
+        Following newest older (with_entry table t e) t (with_entry table t e) waiting None
     follow_begins one =
         rw held
         (record {
@@ -68,10 +70,10 @@ module _
         })
 
     -- with nothing left, the leak is followed
-    pub follow_ends : {now : Table} {waiting : List ℕ} {link : ℕ} →
-        Following newest older (with_entry table t e) t now waiting link → waiting ≡ [] → link ≡ 0 → TableFollowed table t now
+    pub follow_ends : {now : Table} {waiting : List ℕ} {link : Option TermNo} →
+        Following newest older (with_entry table t e) t now waiting link → waiting ≡ [] → link ≡ None → TableFollowed table t now
     follow_ends {now} i none done =
-        let walk : Walk (marked table.entries t) table.terms t now.entries [] 0 =
+        let walk : Walk (marked table.entries t) table.terms t now.entries [] None =
         rw (held, none, done) at i.walk in
         record {
           same_terms = i.same_terms;
@@ -79,9 +81,9 @@ module _
           followed = followed_before f (walk_ends walk (leak_marked f));
         }
 
--- a link is 0, or one more than a number of the table
-pub link_inside : {newest older waiting : List ℕ} {first now : Table} {t link : ℕ}
-    → Following newest older first t now waiting link → link ≤ most_terms
+-- a link leads to a number of the table
+pub link_inside : {newest older : List (Option TermNo)} {waiting : List ℕ} {first now : Table} {t : ℕ} {link : Option TermNo}
+    → Following newest older first t now waiting link → as_number link ≤ most_terms
 link_inside {first = first} i =
     let low : last _ i.walk.bound ≤ i.walk.bound = last_le (under first.entries i.walk.key) i.walk.bound in
     omega (arith, i.walk.link_is, i.walk.within, i.ready.few)

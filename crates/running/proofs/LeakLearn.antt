@@ -9,8 +9,10 @@ use lib.ListN.{length, length-set, length-append}
 use Rattle.std.specs.List.{Contains}
 use Rattle.std.proofs.lemmas.List.Elements.{Contains-append_left, Contains-append_right, Contains-append_cases}
 use Rattle.rules.specs.State.{most_terms}
+use Rattle.std.specs.Prelude.{Option}
 use Rattle.shapes.specs.declared.Entry.{Entry}
 use Rattle.shapes.specs.declared.KeyNo.{KeyNo}
+use Rattle.shapes.specs.declared.TermNo.{TermNo}
 use Rattle.shapes.specs.declared.Term.TheVariants.{Key}
 use Rattle.running.specs.Leaks.{kind_at, held_at, Leak}
 use Rattle.running.proofs.LeakCount.{unheld, unheld_set}
@@ -33,7 +35,7 @@ module _
     {n t : ℕ}
     {now : List Entry}
     {waiting : List ℕ}
-    {link : ℕ}
+    {link : Option TermNo}
     (w : Walk entries n t now waiting link)
     (p : ℕ)
     {c : ℕ}

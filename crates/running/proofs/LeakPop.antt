@@ -7,27 +7,29 @@ use native.Mathlib.Omega.{arith}
 use lib.ListN.{get_or, length-append}
 use Rattle.std.proofs.lemmas.List.Elements.{Contains-append_left, Contains-append_right, Contains-append_cases}
 use Rattle.rules.specs.State.{most_terms}
+use Rattle.std.specs.Prelude.{Option, None}
 use Rattle.shapes.specs.declared.Entry.{Entry}
 use Rattle.shapes.specs.declared.KeyNo.{KeyNo}
+use Rattle.shapes.specs.declared.TermNo.{TermNo}
 use Rattle.shapes.specs.declared.Term.TheVariants.{Seal}
 use Rattle.running.specs.Leaks.{kind_at}
 use Rattle.running.proofs.LeakSeals.{Ready, seal_below, newest_link}
 use Rattle.running.proofs.LeakWalk.{Source, Walk, Due, held_now, waits, ahead, only_one, none_ahead}
 
 -- a key that the leak leads to has its place in the table
-pub source_inside : {entries : List Entry} {newest older : List ℕ} {n t c : ℕ} →
+pub source_inside : {entries : List Entry} {newest older : List (Option TermNo)} {n t c : ℕ} →
     Ready entries newest older n → Source entries t c → c < most_terms
 source_inside r s = r.keys_inside s.term _ s.is_key
 
 module _
     {entries : List Entry}
-    {newest older : List ℕ}
+    {newest older : List (Option TermNo)}
     {n t : ℕ}
     {now : List Entry}
     (waiting : List ℕ)
     (c : ℕ)
     (r : Ready entries newest older n)
-    (w : Walk entries n t now (waiting ++ c ∷ []) 0)
+    (w : Walk entries n t now (waiting ++ c ∷ []) None)
   where
     -- the key that is taken is one that the leak leads to
     pub taken : Source entries t c
@@ -40,7 +42,7 @@ module _
         ⊎_elim waits (λ last. ahead (sym (only_one last)) (seal_below r i s)) (Contains-append_cases waiting (c ∷ []) j.0 there)
     due_popped i p j s (ahead same l) = absurd (none_ahead entries w.key w.bound i w.link_is s same l)
 
-    pub walk_pops : Walk entries n t now waiting (get_or newest c 0)
+    pub walk_pops : Walk entries n t now waiting (get_or newest c None)
     walk_pops =
         record {
           kept = w.kept;

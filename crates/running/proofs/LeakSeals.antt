@@ -7,6 +7,7 @@ use native.Mathlib.Omega.{arith}
 use lib.Dec.{eqb, ltb}
 use lib.ListN.{length, get_or}
 use borrow.Author.Tests.{eqb-true, eq-eqb, ltb-true, ltb-false, lt-ltb}
+use Rattle.std.specs.Prelude.{Option, None}
 use Rattle.terms.proofs.Lists.{bool_cases}
 use Rattle.rules.specs.State.{most_terms}
 use Rattle.shapes.specs.declared.Entry.{Entry}
@@ -14,12 +15,12 @@ use Rattle.shapes.specs.declared.KeyNo.{KeyNo}
 use Rattle.shapes.specs.declared.TermNo.{TermNo}
 use Rattle.shapes.specs.declared.Term.{Term as Kind}
 use Rattle.shapes.specs.declared.Term.TheVariants.{Data, Key, Seal}
-use Rattle.token.specs.Chains.{Linked, last, in_chain, next_in}
+use Rattle.token.specs.Chains.{Linked, as_number, last, in_chain, next_in}
 use Rattle.token.specs.Shows.{under_chain}
 use Rattle.running.specs.Leaks.{kind_at}
 
 -- a table that can be walked: numbers lie inside it, no seal stands past its end, seals under one key are chained
-pub record Ready (entries : List Entry) (newest older : List ℕ) (n : ℕ) : Type 0 where
+pub record Ready (entries : List Entry) (newest older : List (Option TermNo)) (n : ℕ) : Type 0 where
   pub whole : length entries ≡ most_terms
   pub few : n ≤ most_terms
   pub none_past : (i : ℕ) → n ≤ i → kind_at entries i ≡ Data
@@ -55,7 +56,7 @@ pub under_seal : (entries : List Entry) (c i : ℕ) → under entries c i ≡ tr
 unfolding in_chain
 under_seal entries c i h = under_seal_of entries c i (kind_at entries i) refl h
 
-module _ {entries : List Entry} {newest older : List ℕ} {n : ℕ} (r : Ready entries newest older n) where
+module _ {entries : List Entry} {newest older : List (Option TermNo)} {n : ℕ} (r : Ready entries newest older n) where
   -- a seal lies below the end
   pub seal_below : (i : ℕ) {k : KeyNo} {p : TermNo} → kind_at entries i ≡ Seal k p → i < n
   seal_below i e =
@@ -65,12 +66,12 @@ module _ {entries : List Entry} {newest older : List ℕ} {n : ℕ} (r : Ready e
       let z : ◌≡◌ {A = ℕ} 0 1 = cc in absurd (omega arith))
 
   -- a key's first link leads to the newest seal under it
-  pub newest_link : (c : ℕ) → c < most_terms → get_or newest c 0 ≡ last (under entries c) n
+  pub newest_link : (c : ℕ) → c < most_terms → as_number (get_or newest c None) ≡ last (under entries c) n
   newest_link c l = r.chained.first_link c l
 
   -- a seal's link leads to the next older one under the same key
   pub older_link : (i : ℕ) {k : KeyNo} {p : TermNo} → kind_at entries i ≡ Seal k p →
-      get_or older i 0 ≡ last (under entries k.0) i
+      as_number (get_or older i None) ≡ last (under entries k.0) i
   unfolding next_in under_chain
   older_link i e =
       let l : i < n = seal_below i e in

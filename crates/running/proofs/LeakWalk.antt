@@ -7,13 +7,14 @@ use mathlib.Core.List.{List, [], ◌∷◌}
 use mathlib.Core.Logic.{◌⊎◌}
 use native.Mathlib.Omega.{arith}
 use lib.ListN.{length}
+use Rattle.std.specs.Prelude.{Option, None}
 use Rattle.std.specs.List.{Contains}
 use Rattle.rules.specs.State.{most_terms}
 use Rattle.shapes.specs.declared.Entry.{Entry}
 use Rattle.shapes.specs.declared.KeyNo.{KeyNo}
 use Rattle.shapes.specs.declared.TermNo.{TermNo}
 use Rattle.shapes.specs.declared.Term.TheVariants.{Key, Seal}
-use Rattle.token.specs.Chains.{last}
+use Rattle.token.specs.Chains.{as_number, last}
 use Rattle.running.specs.Leaks.{kind_at, held_at, Leak, the_leak, leads, Followed}
 use Rattle.token.proofs.ChainsLast.{last_above}
 use Rattle.running.proofs.LeakCount.{unheld}
@@ -46,7 +47,7 @@ pub data Due (now : List Entry) (waiting : List ℕ) (c m j i p : ℕ) : Type 0 
   waits : Contains waiting j → Due now waiting c m j i p
   ahead : j ≡ c → i < m → Due now waiting c m j i p
 
-pub record Walk (entries : List Entry) (n t : ℕ) (now : List Entry) (waiting : List ℕ) (link : ℕ) : Type 0 where
+pub record Walk (entries : List Entry) (n t : ℕ) (now : List Entry) (waiting : List ℕ) (link : Option TermNo) : Type 0 where
   pub kept : Kept entries t now
   pub room : length waiting + unheld now ≤ most_terms
   pub sources : (c : ℕ) → Contains waiting c → Source entries t c
@@ -54,19 +55,19 @@ pub record Walk (entries : List Entry) (n t : ℕ) (now : List Entry) (waiting :
   pub source : Source entries t key
   pub bound : ℕ
   pub within : bound ≤ n
-  pub link_is : link ≡ last (under entries key) bound
+  pub link_is : as_number link ≡ last (under entries key) bound
   pub due :
       (q p i : ℕ) (j l : KeyNo) → held_at now q ≡ true → kind_at entries q ≡ Key j →
       kind_at entries i ≡ Seal j (record { 0 = p }) → kind_at entries p ≡ Key l → Due now waiting key bound j.0 i p
 
--- where the link is 0 no seal under the key is ahead
+-- where there is no link no seal under the key is ahead
 pub none_ahead : (entries : List Entry) (c m i : ℕ) {j : KeyNo} {p : TermNo} → 0 ≡ last (under entries c) m →
     kind_at entries i ≡ Seal j p → j.0 ≡ c → i < m → ⊥
 none_ahead entries c m i e s same l =
     let hit : under entries c i ≡ true = rw (← same) (seal_under entries i s) in
     true≢false (sym hit ∙ last_above (under entries c) m i (omega arith) l)
 
-module _ {entries : List Entry} {n t : ℕ} {now : List Entry} (w : Walk entries n t now [] 0) where
+module _ {entries : List Entry} {n t : ℕ} {now : List Entry} (w : Walk entries n t now [] None) where
   -- at the end what a held key opens is held
   opened_at_end : (p i : ℕ) (j : KeyNo) → kind_at entries i ≡ Seal j (record { 0 = p }) →
       Due now [] w.key w.bound j.0 i p →

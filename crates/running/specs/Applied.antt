@@ -1,5 +1,5 @@
 -- How a change is made in the token's parts. Assumes nothing.
-use Rattle.std.specs.Prelude.{ℕ, suc, ◌<◌, ◌≡◌, Bool, true, false, length, get_or, set}
+use Rattle.std.specs.Prelude.{ℕ, suc, ◌<◌, ◌≡◌, Bool, true, false, Some, None, length, get_or, set}
 use Rattle.rules.specs.State.{most_terms, most_handles}
 use Rattle.shapes.specs.declared.KeyNo.{KeyNo}
 use Rattle.shapes.specs.declared.TermNo.{TermNo}
@@ -37,10 +37,10 @@ appended table e =
 abbrev pub linked : Links → (i k p : ℕ) → Links
 linked links i k p =
     record {
-      newest = set links.newest k (suc i);
-      older = set links.older i (get_or links.newest k 0);
-      heads = set links.heads (bucket (seal_code k p)) (suc i);
-      chain = set links.chain i (get_or links.heads (bucket (seal_code k p)) 0);
+      newest = set links.newest k (Some (record { 0 = i }));
+      older = set links.older i (get_or links.newest k None);
+      heads = set links.heads (bucket (seal_code k p)) (Some (record { 0 = i }));
+      chain = set links.chain i (get_or links.heads (bucket (seal_code k p)) None);
       codes = set links.codes i (seal_code k p);
     }
 

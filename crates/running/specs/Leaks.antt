@@ -1,6 +1,6 @@
 -- Following a leak through the seals of a table. Where a key's term is held, so is every key sealed directly under it. Assumes
 -- nothing.
-use Rattle.std.specs.Prelude.{ℕ, ◌≤◌, ◌<◌, ◌≡◌, Bool, true, false, List, ◌⊎◌, length, get_or}
+use Rattle.std.specs.Prelude.{ℕ, ◌≤◌, ◌<◌, ◌≡◌, Bool, true, false, List, Option, ◌⊎◌, length, get_or}
 use Rattle.shapes.specs.Entries.{is_held, is_own_entry}
 use Rattle.rules.specs.State.{most_terms}
 use Rattle.shapes.specs.declared.Entry.{Entry}
@@ -38,7 +38,7 @@ ClosedBut entries t = (q p : ℕ) → held_at entries q ≡ true → Opens entri
 
 -- entries that can be followed: numbers lie inside the table, what stands past its end is blank, seals under one key are chained,
 -- and t is the term of key k and is not held
-pub record Followable (entries : List Entry) (newest older : List ℕ) (n t : ℕ) (k : KeyNo) : Type 0 where
+pub record Followable (entries : List Entry) (newest older : List (Option TermNo)) (n t : ℕ) (k : KeyNo) : Type 0 where
   pub whole : length entries ≡ most_terms
   pub few : n ≤ most_terms
   pub blank_past : (i : ℕ) → n ≤ i → get_or entries i blank_entry ≡ blank_entry

@@ -62,7 +62,7 @@ aim_of OwnKey a b t = seal_code 0 0
 aim_of OwnData a b t = seal_code 0 0
 aim_of (Seal k n) a b t = seal_code (key_of t.term).0 n.0
 
--- a link as an answer: one more than a number, or 0
+-- one more than a number, or 0, as the number or none
 abbrev pub equal_at : (link : ℕ) → Option TermNo
 equal_at zero = None
 equal_at (suc i) = Some (record { 0 = i })
@@ -72,7 +72,7 @@ unfoldable pub equal_in : List ℕ → (code : ℕ) → Option TermNo
 equal_in codes code = equal_at (last (λ i. eqb (get_or codes i 0) code) most_terms)
 
 -- the chains of the buckets lead to every code
-pub record Findable (heads chain codes : List ℕ) : Type 0 where
+pub record Findable (heads chain : List (Option TermNo)) (codes : List ℕ) : Type 0 where
   pub count : ℕ
   pub few : count ≤ most_terms
   pub codes_length : length codes ≡ most_terms

@@ -22,11 +22,10 @@ pub fn find(links: &Links, code: u32) -> Option<TermNo>
     ensures { result ≡ equal_in links.now.codes code }
 {
     let mut link = links.heads[bucket_of(code)];
-    while link != 0 {
-        let number = link - 1;
-        let i = number as usize;
+    while let Some(number) = link {
+        let i = number.0 as usize;
         if links.codes[i] == code {
-            return Some(TermNo(number));
+            return Some(number);
         }
         link = links.chain[i];
     }

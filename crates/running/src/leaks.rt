@@ -21,16 +21,16 @@ pub fn follow(table: &mut Table, links: &Links, t: TermNo)
     table.entries[at] = known(leak);
     let mut waiting = ArrayVec::<u16, 1024>::new();
     waiting.push(key_of(leak).0);
-    let mut link: u16 = 0;
+    let mut link: Option<TermNo> = None;
     loop {
-        if link == 0 {
+        let Some(seal) = link else {
             let Some(key) = waiting.pop() else {
                 return;
             };
             link = links.newest[key as usize];
             continue;
-        }
-        let i = (link - 1) as usize;
+        };
+        let i = seal.0 as usize;
         link = links.older[i];
         let q = payload_no(table.entries[i]).0 as usize;
         let inner = table.entries[q];

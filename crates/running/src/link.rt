@@ -1,5 +1,5 @@
 // The links of a new seal: it goes to the front of its two chains, of its key and of its bucket.
-ghost use Rattle.std.specs.Prelude.{◌≡◌, suc, ◌<◌, get_or, set};
+ghost use Rattle.std.specs.Prelude.{◌≡◌, ◌<◌, Some, None, get_or, set};
 ghost use Rattle.rules.specs.State.{most_terms};
 ghost use Rattle.running.specs.Applied.{linked};
 
@@ -9,14 +9,19 @@ use shapes::{KeyNo, TermNo};
 use token::Links;
 
 // Puts a number before the first of a chain.
-fn first(firsts: &mut [u16; 1024], nexts: &mut [u16; 1024], of: usize, number: u16)
+fn first(
+    firsts: &mut [Option<TermNo>; 1024],
+    nexts: &mut [Option<TermNo>; 1024],
+    of: usize,
+    number: u16,
+)
     requires of_lt_most_terms { of < most_terms }
     requires number_lt_most_terms { number < most_terms }
-    ensures firsts_after { firsts.new ≡ set firsts.old of (suc number) }
-    ensures nexts_after { nexts.new ≡ set nexts.old number (get_or firsts.old of 0) }
+    ensures firsts_after { firsts.new ≡ set firsts.old of (Some (record { 0 = number })) }
+    ensures nexts_after { nexts.new ≡ set nexts.old number (get_or firsts.old of None) }
 {
     nexts[number as usize] = firsts[of];
-    firsts[of] = number + 1;
+    firsts[of] = Some(TermNo(number));
 }
 
 // Links seal number `number`, of term p under key k.

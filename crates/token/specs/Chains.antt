@@ -1,7 +1,13 @@
 -- Links between the numbers of a table. Each number below n is in one chain or in none; a chain's first link leads to its
--- greatest number, and from a number the next link to the next smaller one of its chain. A link is one more than a number, or 0
--- for none. Assumes nothing.
-use Rattle.std.specs.Prelude.{ℕ, zero, suc, ◌<◌, ◌≡◌, Bool, cond, List, eqb, ltb, length, get_or}
+-- greatest number, and from a number the next link to the next smaller one of its chain. A link is the number that it leads to, or
+-- none. Assumes nothing.
+use Rattle.std.specs.Prelude.{ℕ, zero, suc, ◌<◌, ◌≡◌, Bool, cond, List, Option, Some, None, eqb, ltb, length, get_or}
+use Rattle.shapes.specs.declared.TermNo.{TermNo}
+
+-- a link as a number: one more than where it leads to, or 0 for none
+abbrev pub as_number : Option TermNo → ℕ
+as_number None = 0
+as_number (Some t) = suc t.0
 
 -- one more than the greatest number below n that passes a test, or 0
 unfoldable pub last : (ℕ → Bool) → (n : ℕ) → ℕ
@@ -21,8 +27,8 @@ next_in chain_of i (suc c) = last (in_chain chain_of c) i
 abbrev pub places : ℕ
 places = 1024
 
-pub record Linked (chain_of : ℕ → ℕ) (firsts nexts : List ℕ) (n : ℕ) : Type 0 where
+pub record Linked (chain_of : ℕ → ℕ) (firsts nexts : List (Option TermNo)) (n : ℕ) : Type 0 where
   pub firsts_length : length firsts ≡ places
   pub nexts_length : length nexts ≡ places
-  pub first_link : (c : ℕ) → c < places → get_or firsts c 0 ≡ last (in_chain chain_of c) n
-  pub next_link : (i : ℕ) → i < places → get_or nexts i 0 ≡ cond (ltb i n) (next_in chain_of i (chain_of i)) 0
+  pub first_link : (c : ℕ) → c < places → as_number (get_or firsts c None) ≡ last (in_chain chain_of c) n
+  pub next_link : (i : ℕ) → i < places → as_number (get_or nexts i None) ≡ cond (ltb i n) (next_in chain_of i (chain_of i)) 0

@@ -22,10 +22,10 @@ blank_token =
       table = record { entries = replicate most_terms blank_entry; terms = 0; keys = 0 };
       links =
           record {
-            newest = replicate places 0;
-            older = replicate places 0;
-            heads = replicate places 0;
-            chain = replicate places 0;
+            newest = replicate places None;
+            older = replicate places None;
+            heads = replicate places None;
+            chain = replicate places None;
             codes = replicate places 0;
           };
       hands = record { slots = replicate most_handles blank_slot; live = 0 ∷ 0 ∷ 0 ∷ 0 ∷ [] };

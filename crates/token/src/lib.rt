@@ -18,15 +18,15 @@ pub struct Table {
     pub keys: u16,
 }
 
-// Ways through the seals, each link one more than a term number, or 0 for none: by key the newest seal under it, and from a seal the
-// next older one under the same key; by bucket the newest seal of it, and from a seal the next older one of the same bucket. The
-// code of a seal is a number that no other seal has. Each list stands by itself, as `Linked` and `ShowsLinks` of specs/ speak of it.
+// Ways through the seals: by key the newest seal under it, and from a seal the next older one under the same key; by bucket the
+// newest seal of it, and from a seal the next older one of the same bucket. The code of a seal is a number that no other seal has.
+// Each list stands by itself, as `Linked` and `ShowsLinks` of specs/ speak of it.
 #[derive(Clone, Copy)]
 pub struct Links {
-    pub newest: [u16; 1024],
-    pub older: [u16; 1024],
-    pub heads: [u16; 1024],
-    pub chain: [u16; 1024],
+    pub newest: [Option<TermNo>; 1024],
+    pub older: [Option<TermNo>; 1024],
+    pub heads: [Option<TermNo>; 1024],
+    pub chain: [Option<TermNo>; 1024],
     pub codes: [u32; 1024],
 }
 
@@ -79,10 +79,10 @@ pub fn fresh() -> Token
             keys: 0,
         },
         links: Links {
-            newest: [0; 1024],
-            older: [0; 1024],
-            heads: [0; 1024],
-            chain: [0; 1024],
+            newest: [None; 1024],
+            older: [None; 1024],
+            heads: [None; 1024],
+            chain: [None; 1024],
             codes: [0; 1024],
         },
         hands: Hands {

@@ -4,53 +4,53 @@
 use mathlib.Core.Path.{refl, sym, ◌∙◌}
 use mathlib.Core.Bool.{false≢true}
 use native.Mathlib.Omega.{arith}
-use Rattle.running.proofs.LeakFollow.{follow_begins, none_left, follow_ends, link_inside}
+use Rattle.running.proofs.LeakFollow.{follow_begins, none_left, follow_ends}
 use Rattle.running.proofs.LeakTurns.{pop_inside, follow_pops, pop_less, follow_passes, pass_less}
-use Rattle.running.proofs.LeakTurns.{learn_room, follow_learns, learn_less}
+use Rattle.running.proofs.LeakTurns.{learn_room, follow_learns, learn_less, seal_inside}
 use Rattle.running.proofs.leaks.follow.Goals as goal
 
 pub loop-link-init : goal.loop-link-init
 loop-link-init c = follow_begins _ c.requires c.known.ensures (rw (c.push.ensures.items, c.key_of.ensures, c.new-waiting.ensures) refl)
 
-pub returns-in_default : goal.returns-in_default
-returns-in_default c = follow_ends _ c.requires c.known.ensures c.loop-link.invariant (none_left (λ more. false≢true (c.in_default.ensures.variant.1 more))) c.if-link-eq0.true
+pub returns-in_default-pop : goal.returns-in_default-pop
+returns-in_default-pop c = follow_ends _ c.requires c.known.ensures c.loop-link.invariant (none_left (λ more. false≢true (c.in_default-pop.ensures.variant.1 more))) c.in_default.is
 
 pub bounds-links-key : goal.bounds-links-key
-bounds-links-key c = pop_inside c.loop-link.invariant c.if-link-eq0.true _ _ c.in-Some.ensures.items
+bounds-links-key c = pop_inside c.loop-link.invariant c.in_default.is _ _ c.in-Some-pop.ensures.items
 
-pub loop-link-smaller-then-link-eq0 : goal.loop-link-smaller-then-link-eq0
-loop-link-smaller-then-link-eq0 c = pop_less c.loop-link.invariant c.if-link-eq0.true _ _ c.in-Some.ensures.items
+pub loop-link-smaller-in_default : goal.loop-link-smaller-in_default
+loop-link-smaller-in_default c = pop_less c.loop-link.invariant c.in_default.is _ _ c.in-Some-pop.ensures.items
 
-pub loop-link-preserved-then-link-eq0 : goal.loop-link-preserved-then-link-eq0
-loop-link-preserved-then-link-eq0 c = follow_pops c.loop-link.invariant c.if-link-eq0.true _ _ c.in-Some.ensures.items
+pub loop-link-preserved-in_default : goal.loop-link-preserved-in_default
+loop-link-preserved-in_default c = follow_pops c.loop-link.invariant c.in_default.is _ _ c.in-Some-pop.ensures.items
 
 pub bounds-links-i : goal.bounds-links-i
-bounds-links-i c = omega (arith, link_inside c.loop-link.invariant)
+bounds-links-i c = seal_inside c.loop-link.invariant _ c.in-Some.is
 
 pub bounds-table-i : goal.bounds-table-i
-bounds-table-i c = omega (arith, link_inside c.loop-link.invariant)
+bounds-table-i c = seal_inside c.loop-link.invariant _ c.in-Some.is
 
 pub push-requires-then-leaks : goal.push-requires-then-leaks
 push-requires-then-leaks c = (
   omega arith,
-  learn_room c.loop-link.invariant c.if-link-eq0.false c.payload_no-q.ensures (sym c.leaks.ensures ∙ c.if-leaks.true)
+  learn_room c.loop-link.invariant _ c.in-Some.is c.payload_no-q.ensures (sym c.leaks.ensures ∙ c.if-leaks.true)
       c.known-then-leaks.ensures c.key_of-then-leaks.ensures,
 )
 
 pub loop-link-smaller-then-leaks : goal.loop-link-smaller-then-leaks
 loop-link-smaller-then-leaks c = rw c.push-then-leaks.ensures.items
-    (learn_less c.loop-link.invariant c.if-link-eq0.false c.payload_no-q.ensures (sym c.leaks.ensures ∙ c.if-leaks.true)
+    (learn_less c.loop-link.invariant _ c.in-Some.is c.payload_no-q.ensures (sym c.leaks.ensures ∙ c.if-leaks.true)
     c.known-then-leaks.ensures c.key_of-then-leaks.ensures)
 
 pub loop-link-preserved-then-leaks : goal.loop-link-preserved-then-leaks
 loop-link-preserved-then-leaks c = rw c.push-then-leaks.ensures.items
-    (follow_learns c.loop-link.invariant c.if-link-eq0.false c.payload_no-q.ensures (sym c.leaks.ensures ∙ c.if-leaks.true)
+    (follow_learns c.loop-link.invariant _ c.in-Some.is c.payload_no-q.ensures (sym c.leaks.ensures ∙ c.if-leaks.true)
     c.known-then-leaks.ensures c.key_of-then-leaks.ensures)
 
 pub loop-link-smaller : goal.loop-link-smaller
-loop-link-smaller c = pass_less c.loop-link.invariant c.if-link-eq0.false c.payload_no-q.ensures
+loop-link-smaller c = pass_less c.loop-link.invariant _ c.in-Some.is c.payload_no-q.ensures
     (sym c.leaks.ensures ∙ c.if-leaks.false)
 
 pub loop-link-preserved : goal.loop-link-preserved
-loop-link-preserved c = follow_passes c.loop-link.invariant c.if-link-eq0.false c.payload_no-q.ensures
+loop-link-preserved c = follow_passes c.loop-link.invariant _ c.in-Some.is c.payload_no-q.ensures
     (sym c.leaks.ensures ∙ c.if-leaks.false)

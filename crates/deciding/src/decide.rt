@@ -14,7 +14,7 @@ ghost use Rattle.deciding.specs.Decisions.{decided_corrupt, decided_destroy, dec
 
 use crate::tables::{Making, Use, bars_wrap, granted, lacks};
 use crate::{Change, Done, Refusal, View};
-use shapes::entries::{is_key, key_of, payload_no};
+use shapes::entries::{is_key, is_unknown_key, key_of, payload_no};
 use shapes::policy::Policy;
 use shapes::{Command, Entry, HandleNo, KeyNo, MOST_TERMS, Slot, Term, TermNo};
 
@@ -57,7 +57,7 @@ fn made(equal: Option<TermNo>, terms: u16, change: Change) -> Result<Done, Refus
 fn learn(number: TermNo, entry: Entry) -> Change
     ensures { result ≡ learning number entry }
 {
-    if is_key(entry) && !entry.marks.held {
+    if is_unknown_key(entry) {
         Change::Know(number)
     } else {
         Change::Nothing

@@ -3,17 +3,18 @@
 #![tactic(auto)]
 
 ghost use Rattle.std.specs.Prelude.{◌≡◌};
+ghost use Rattle.shapes.specs.declared.CallError.TheVariants.{Malformed as At};
 ghost use Rattle.reader.specs.Reader.{checked, body_at, entry_at};
 
-use crate::table::{bodies_begin, header, row_at, row_inside};
-use shapes::SheetEntry;
-use shapes::parse::parse;
+use crate::table::{header, row_at, row_inside};
+use shapes::parse::{bodies_begin, parse};
+use shapes::{CallError, SheetEntry};
 
 pub mod handing;
 mod table;
 
 // What the header of a good sheet says: its policy, by the number that stands there, as `checked` has it and `decide` takes it; and how
-// many entries it has.
+// many entries it has. That there are at most 4,096 is no invariant here, since `checked` makes a header of any two numbers.
 #[derive(Clone, Copy, PartialEq, Eq)]
 pub struct Header {
     pub policy: u8,
@@ -24,6 +25,14 @@ pub struct Header {
 #[derive(Clone, Copy, PartialEq, Eq)]
 pub struct Malformed {
     pub place: u16,
+}
+
+impl From<Malformed> for CallError {
+    ghost from_gives = { λ fault error. error ≡ At fault.place };
+
+    fn from(fault: Malformed) -> CallError {
+        CallError::Malformed(fault.place)
+    }
 }
 
 // Checks a sheet to its first fault, in one pass: `end` is where the bodies passed end.

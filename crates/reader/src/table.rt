@@ -7,7 +7,7 @@ ghost use Rattle.sheets.specs.Faults.{body_length};
 ghost use Rattle.reader.specs.Parts.{HeaderOf, row_of, faulty, RowInside};
 
 use crate::{Header, Malformed};
-use shapes::parse::{body_length, known_number};
+use shapes::parse::{bodies_begin, body_length, known_number};
 use shapes::{MOST_COMMANDS, MOST_POLICY};
 
 // A row of the table: an entry's command number, and where its body begins.
@@ -41,14 +41,6 @@ fn two_at(bytes: &[u8], at: usize) -> u16
     ensures { result ≡ two_at bytes.now at }
 {
     u16::from_be_bytes([bytes[at], bytes[at + 1]])
-}
-
-// Where the bodies begin, behind the header and so many entries.
-#[tactic(auto, unfolding(sheets::specs::Sheets::bodies_begin))]
-pub fn bodies_begin(count: u16) -> usize
-    ensures { result ≡ bodies_begin count }
-{
-    3 + 3 * (count as usize)
 }
 
 // The header, where there is no fault at place 0.

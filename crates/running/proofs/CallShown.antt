@@ -3,12 +3,13 @@
 use Prim.Native.Nat.{ℕ, ◌≤◌, ◌<◌}
 use native.Mathlib.Omega.{arith}
 use mathlib.Core.Path.{◌≡◌, refl, sym, ap, subst, ◌∙◌}
-use mathlib.Core.Bool.{Bool, true, false}
+use mathlib.Core.Bool.{Bool, true, false, false≢true}
 use mathlib.Core.List.{List}
 use borrow.Author.Tests.{ltb-false, eqb-true, not-false}
 use lib.ListN.{length, get_or}
-use Rattle.std.specs.Prelude.{Option, Some, None, Result, Err}
+use Rattle.std.specs.Prelude.{Option, Some, None, Result, Err, is_some}
 use Rattle.terms.proofs.Lists.{in_at, at_get_d}
+use Rattle.rules.specs.Commands.{Command}
 use Rattle.rules.proofs.Named.{neither}
 use Rattle.sheets.specs.Bytes.{Bytes}
 use Rattle.sheets.specs.Sheets.{Holdable}
@@ -17,8 +18,7 @@ use Rattle.sheets.specs.Reading.{read_command}
 use Rattle.sheets.proofs.Bodies.{stated}
 use Rattle.shapes.specs.declared.Command.{Command as Stored}
 use Rattle.shapes.specs.declared.Command.TheVariants.{OwnKey}
-use Rattle.shapes.specs.Commands.{stored_command, parsed}
-use Rattle.shapes.proofs.Parsing.{states}
+use Rattle.shapes.specs.Commands.{stored_command, parsed_if, called}
 use Rattle.deciding.specs.declared.Refusal.{Refusal}
 use Rattle.deciding.specs.declared.Refusal.TheVariants.{NotACall}
 use Rattle.token.specs.declared.Token.{Token}
@@ -58,32 +58,48 @@ abbrev or_stored : Option Stored → Stored
 or_stored (Some command) = command
 or_stored None = OwnKey
 
-module _ (policy number : ℕ) (body : List ℕ) (a_call : not_a_call policy number body ≡ false) where
-  -- it states a command
-  pub call_parsed : parsed number body ≡ Some (stored_command (read_command number body))
-  call_parsed = let call = is_call policy number body a_call in states number body call.known call.long
+-- what `call_of` answers tells whether it is a call, and of which command
+none_called : (is_none : Bool) (c : Command) → parsed_if is_none c ≡ None → is_none ≡ true
+unfolding parsed_if
+none_called true c e = refl
+none_called false c e = absurd (false≢true (sym (ap is_some e)))
 
-  module _ (below : (i : ℕ) → get_or body i 0 < 256) {token : Token} (reached : Reached token policy) {command : Stored}
-      (is : Some command ≡ parsed number body) where
-    is_command : command ≡ stored_command (read_command number body)
-    is_command = ap or_stored (is ∙ call_parsed)
+some_called : (is_none : Bool) (c : Command) {command : Stored} → parsed_if is_none c ≡ Some command → is_none ≡ false
+unfolding parsed_if
+some_called true c e = absurd (false≢true (ap is_some e))
+some_called false c e = refl
 
-    holdable : Holdable (read_command number body)
-    holdable = (stated body (bytes_of body below) number (is_call policy number body a_call).known).holdable
+pub no_call : (token : Token) (policy number : ℕ) (body : List ℕ) → called policy number body ≡ None
+    → Answered token policy number body (record { token = token; said = Err NotACall })
+unfolding called
+no_call token policy number body e = none_answered token policy number body (none_called _ _ e)
 
-    -- which can be stepped
-    pub call_steps : CanStep (decision_on policy command token) token
-    call_steps =
-        record {
-          findable = findable reached.comes.shown;
-          applicable =
-              step_applicable refl refl (is_call policy number body a_call).low reached (read_command number body) holdable is_command;
-        }
+module _ (policy number : ℕ) (body : List ℕ) (below : (i : ℕ) → get_or body i 0 < 256) {command : Stored}
+    (is : called policy number body ≡ Some command) {token : Token} (reached : Reached token policy) where
+  a_call : not_a_call policy number body ≡ false
+  unfolding called
+  a_call = some_called _ _ is
 
-    -- and its step is what the call promises
-    pub call_answered : {r : Token} {said : Result ℕ Refusal} → Stepped (decision_on policy command token) token r said
-        → Answered token policy number body (record { token = r; said = said })
-    call_answered {r} {said} by p s comes =
-        subst (λ (b : Bool). CallAnswer b token p s number body (record { token = r; said = said })) (sym a_call)
-        (step_stepped refl refl (is_call policy number body a_call).low by.changes by.answers by.values p s (read_command number body)
-        comes holdable is_command)
+  is_command : command ≡ stored_command (read_command number body)
+  unfolding called parsed_if
+  is_command = sym (ap or_stored (rw a_call at is))
+
+  holdable : Holdable (read_command number body)
+  holdable = (stated body (bytes_of body below) number (is_call policy number body a_call).known).holdable
+
+  -- a call can be stepped
+  pub call_steps : CanStep (decision_on policy command token) token
+  call_steps =
+      record {
+        findable = findable reached.comes.shown;
+        applicable =
+            step_applicable refl refl (is_call policy number body a_call).low reached (read_command number body) holdable is_command;
+      }
+
+  -- and its step is what the call promises
+  pub call_answered : {r : Token} {said : Result ℕ Refusal} → Stepped (decision_on policy command token) token r said
+      → Answered token policy number body (record { token = r; said = said })
+  call_answered {r} {said} by p s comes =
+      subst (λ (b : Bool). CallAnswer b token p s number body (record { token = r; said = said })) (sym a_call)
+      (step_stepped refl refl (is_call policy number body a_call).low by.changes by.answers by.values p s (read_command number body)
+      comes holdable is_command)

@@ -12,13 +12,6 @@ use shapes::entries::is_key;
 use shapes::{Entry, HandleNo, KeyNo, Marks, Slot, Term, TermNo};
 use token::{Hands, Table, Token};
 
-// A dead handle's slot.
-const BLANK: Slot = Slot {
-    key: KeyNo(0),
-    term: TermNo(0),
-    flags: 0,
-};
-
 // The marks of a term that is entered: a key that the token generates; what is the caller's own; what is given to the caller.
 const GENERATED: Marks = Marks {
     held: false,
@@ -39,7 +32,7 @@ const GIVEN: Marks = Marks {
 fn put(hands: &mut Hands, h: HandleNo, slot: Option<Slot>)
     ensures { SlotSet hands.old h.0 (slot_in slot) (is_some slot) hands.new }
 {
-    hands.slots[h.0 as usize] = slot.unwrap_or(BLANK);
+    hands.slots[h.0 as usize] = slot.unwrap_or(Slot::BLANK);
     hands.live = set(hands.live, h, slot.is_some());
 }
 

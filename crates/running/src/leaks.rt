@@ -1,13 +1,13 @@
 // Following a leak: a key that becomes known opens every seal under it, whatever the order in which they were made, and so on for
 // each key found there. Each key is handled once: it waits, and is taken.
-ghost use Rattle.std.specs.Prelude.{◌≡◌, true, not, ◌&&◌};
+ghost use Rattle.std.specs.Prelude.{◌≡◌, true};
 ghost use Rattle.token.specs.Shows.{entry as entry_with};
-ghost use Rattle.shapes.specs.Entries.{is_key_entry, is_held, is_own_entry, key_of};
+ghost use Rattle.shapes.specs.Entries.{is_own_entry, key_of};
 ghost use Rattle.running.specs.Leaks.{Followable, kind_at};
 ghost use Rattle.running.specs.Applied.{TableFollowed};
 
 use arrayvec::ArrayVec;
-use shapes::entries::{is_key, key_of, payload_no};
+use shapes::entries::{is_unknown_key, key_of, payload_no};
 use shapes::{Entry, Marks, TermNo};
 use token::{Links, Table};
 
@@ -34,18 +34,11 @@ pub fn follow(table: &mut Table, links: &Links, t: TermNo)
         link = links.older[i];
         let q = payload_no(table.entries[i]).0 as usize;
         let inner = table.entries[q];
-        if leaks(inner) {
+        if is_unknown_key(inner) {
             table.entries[q] = known(inner);
             waiting.push(key_of(inner).0);
         }
     }
-}
-
-// Is the entry a key's that is not held?
-fn leaks(entry: Entry) -> bool
-    ensures { result ≡ (is_key_entry entry && not (is_held entry)) }
-{
-    is_key(entry) && !entry.marks.held
 }
 
 // The entry, held.

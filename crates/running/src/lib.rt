@@ -16,7 +16,7 @@ ghost use Rattle.running.specs.Run.{RanSheet};
 use advance::{advance, step};
 use deciding::Refusal;
 use reader::{Header, Malformed, check};
-use shapes::parse::{not_a_call, parse};
+use shapes::parse::call_of;
 use token::{Token, fresh};
 
 // What the direct call gives back: the token, and the value or why the command is refused.
@@ -46,21 +46,19 @@ pub fn run(sheet: &[u8], records: &mut [u8; 12288]) -> Ran
     Ran { checked, token }
 }
 
-// The direct call: one command by its number and its body's bytes.
-pub fn call(token: Token, policy: u8, number: u8, body: &[u8]) -> Called
+// The direct call: one command by its number and its body's bytes, under a policy by its number: any numbers, of which `call_of` asks.
+pub fn call(mut token: Token, policy: u8, number: u8, body: &[u8]) -> Called
     requires { Reached token policy }
     ensures { Answered token policy number body.now result }
 {
-    if not_a_call(policy, number, body) {
+    let Some(command) = call_of(policy, number, body) else {
         return Called {
             token,
             said: Err(Refusal::NotACall),
         };
-    }
-    let command = parse(number, body).unwrap();
-    let mut next = token;
-    let said = step(&mut next, policy, command);
-    Called { token: next, said }
+    };
+    let said = step(&mut token, policy, command);
+    Called { token, said }
 }
 
 // What is said as numbers of document 01's table: the answer, and the value.

@@ -10,11 +10,11 @@ use Rattle.std.specs.Prelude.{Some}
 use Rattle.sheets.specs.Bytes.{byte_at, two_at}
 use Rattle.sheets.specs.Faults.{known_number, body_length, body_lengths}
 use Rattle.sheets.specs.Reading.{read_command, readers}
-use Rattle.shapes.specs.Commands.{stored_command, parsed_if, no_command, not_a_call, parsed}
+use Rattle.shapes.specs.Commands.{stored_command, parsed_if, no_command, not_a_call, called, parsed}
 
 -- one name for what a command is read by, to compute with
 unfoldable pub parsing_opened : Unit {0}
-unfolding parsed parsed_if no_command not_a_call stored_command known_number body_length body_lengths read_command readers byte_at two_at
+unfolding parsed parsed_if no_command not_a_call called stored_command known_number body_length body_lengths read_command readers byte_at two_at
 parsing_opened = tt
 
 -- a known number has a place in the table of lengths

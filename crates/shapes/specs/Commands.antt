@@ -32,5 +32,9 @@ no_command number body = not (known_number number) || not (eqb (length body) (bo
 unfoldable pub not_a_call : (policy number : ℕ) (body : List ℕ) → Bool
 not_a_call policy number body = ltb 2 policy || no_command number body
 
+-- the command of a direct call, where it is one
+unfoldable pub called : (policy number : ℕ) (body : List ℕ) → Option Stored
+called policy number body = parsed_if (not_a_call policy number body) (read_command number body)
+
 unfoldable pub parsed : (number : ℕ) (body : List ℕ) → Option Stored
 parsed number body = parsed_if (no_command number body) (read_command number body)

@@ -52,6 +52,15 @@ pub struct Slot {
     pub flags: u8,
 }
 
+impl Slot {
+    // What stands in a dead handle's place.
+    pub const BLANK: Slot = Slot {
+        key: KeyNo(0),
+        term: TermNo(0),
+        flags: 0,
+    };
+}
+
 #[derive(Clone, Copy)]
 pub enum Command {
     Generate(u8),
@@ -71,4 +80,11 @@ pub enum Command {
 pub struct SheetEntry {
     pub number: u8,
     pub command: Command,
+}
+
+// Why a call that is lent a buffer gives nothing: what was handed over is malformed at a place, or the buffer is too short.
+#[derive(Clone, Copy, PartialEq, Eq)]
+pub enum CallError {
+    Malformed(u16),
+    Short,
 }

@@ -1,7 +1,8 @@
 // A command from its number and its body's bytes, with the constant table of body lengths.
 ghost use Rattle.std.specs.Prelude.{◌≡◌, ◌+◌, ◌*◌};
 ghost use Rattle.sheets.specs.Faults.{known_number, body_length};
-ghost use Rattle.shapes.specs.Commands.{not_a_call, parsed};
+ghost use Rattle.sheets.specs.Sheets.{bodies_begin};
+ghost use Rattle.shapes.specs.Commands.{called, not_a_call, parsed};
 
 use crate::{Command, HandleNo, MOST_POLICY, TermNo};
 
@@ -15,7 +16,7 @@ fn term(high: u8, low: u8) -> TermNo
     TermNo(u16::from_be_bytes([high, low]))
 }
 
-// Is this the number of a command?
+// Is this the number of a command? Any byte can stand for one in a sheet, so numbers come as bytes here, and a `Command` is what they state.
 #[tactic(auto, using(std::proofs::lemmas::Bool::Decides::nat_tests), unfolding(crate::proofs::Parsing::parsing_opened))]
 pub fn known_number(number: u8) -> bool
     ensures { result ≡ known_number number }
@@ -57,10 +58,29 @@ pub fn parse(number: u8, body: &[u8]) -> Option<Command>
     }
 }
 
-// Is a direct call none: a policy above 2, an unknown command number, or a body not of that command's length?
+// The command of a direct call: none for a policy above 2, an unknown command number, or a body not of that command's length.
+#[tactic(auto, using(std::proofs::lemmas::Bool::Decides::nat_tests), unfolding(crate::proofs::Parsing::parsing_opened))]
+pub fn call_of(policy: u8, number: u8, body: &[u8]) -> Option<Command>
+    ensures { result ≡ called policy number body.now }
+{
+    if MOST_POLICY < policy {
+        return None;
+    }
+    parse(number, body)
+}
+
+// Is a direct call none?
 #[tactic(auto, using(std::proofs::lemmas::Bool::Decides::nat_tests), unfolding(crate::proofs::Parsing::parsing_opened))]
 pub fn not_a_call(policy: u8, number: u8, body: &[u8]) -> bool
     ensures { result ≡ not_a_call policy number body.now }
 {
-    MOST_POLICY < policy || !known_number(number) || body.len() != body_length(number)
+    call_of(policy, number, body).is_none()
+}
+
+// Where the bodies of a sheet begin, behind the header and so many entries.
+#[tactic(auto, unfolding(sheets::specs::Sheets::bodies_begin))]
+pub fn bodies_begin(count: u16) -> usize
+    ensures { result ≡ bodies_begin count }
+{
+    3 + 3 * count as usize
 }

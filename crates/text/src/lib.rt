@@ -32,16 +32,16 @@ fn write_run(
     sheet: &[u8],
     header: Header,
     records: &[u8; 12288],
-    token: Token,
+    token: &Token,
     out: &mut [u8; 131072],
 ) -> usize
     requires { (header.count ≤ 4096) × (3 + 3 * header.count ≤ length sheet.now) }
-    ensures { Printed (run_text header.policy sheet.now header.count records.now token.table.entries)
+    ensures { Printed (run_text header.policy sheet.now header.count records.now token.now.table.entries)
         out.old out.new result }
 {
     let mut page = Page { buffer: out, at: 0 };
-    write_first(header.policy, header.count, &mut page);
-    write_lines(sheet, header.count, records, &mut page);
+    write_first(header, &mut page);
+    write_lines(sheet, header, records, &mut page);
     write_tally(tally_of(records, header.count), &mut page);
     write_known_keys(token, &mut page);
     page.at
@@ -64,6 +64,6 @@ pub fn text_of(sheet: &[u8], out: &mut [u8; 131072]) -> usize
     let ran = run(sheet, &mut records);
     match ran.checked {
         Err(fault) => write_malformed(fault.place, out),
-        Ok(header) => write_run(sheet, header, &records, ran.token, out),
+        Ok(header) => write_run(sheet, header, &records, &ran.token, out),
     }
 }

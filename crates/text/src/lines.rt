@@ -7,6 +7,7 @@ ghost use Rattle.text.specs.Writing.{HasRoom, Puts};
 
 use crate::Tally;
 use crate::append::Page;
+use reader::Header;
 use shapes::policy::Policy;
 
 // A policy's name, by the number that a sheet has.
@@ -43,13 +44,13 @@ fn name_of_command(number: u8) -> &'static [u8]
 }
 
 // The first line: policy and count.
-pub fn write_first(policy: u8, n: u16, page: &mut Page)
+pub fn write_first(header: Header, page: &mut Page)
     requires { HasRoom 28 page.old }
-    ensures { Puts 28 (first_line (read_policy policy) n) page.old page.new }
+    ensures { Puts 28 (first_line (read_policy header.policy) header.count) page.old page.new }
 {
     page.word(b"policy", b' ');
-    page.word(name_of_policy(policy), b' ');
-    page.told(b"commands", n, b'\n');
+    page.word(name_of_policy(header.policy), b' ');
+    page.told(b"commands", header.count, b'\n');
 }
 
 // A command's line: position, name, answer, value.
@@ -63,12 +64,13 @@ fn write_line(position: u16, number: u8, answer: u8, value: u16, page: &mut Page
     page.number(value, b'\n');
 }
 
-// The lines of a sheet's n commands, each with its record.
-pub fn write_lines(sheet: &[u8], n: u16, records: &[u8; 12288], page: &mut Page)
-    requires { (n ≤ 4096) × (3 + 3 * n ≤ length sheet.now) × HasRoom (25 * n) page.old }
-    ensures { Puts (25 * n) (entry_lines sheet.now records.now n) page.old page.new }
+// The lines of a sheet's commands, each with its record. Numbers and records are read at their places, as `entry_lines` has them: the line
+// tells the number that stands in the sheet, and a chain of chunks would have to be counted and cut all the same.
+pub fn write_lines(sheet: &[u8], header: Header, records: &[u8; 12288], page: &mut Page)
+    requires { (header.count ≤ 4096) × (3 + 3 * header.count ≤ length sheet.now) × HasRoom (25 * header.count) page.old }
+    ensures { Puts (25 * header.count) (entry_lines sheet.now records.now header.count) page.old page.new }
 {
-    for i in 0..n {
+    for i in 0..header.count {
         let p = 3 * i as usize;
         let value = u16::from_be_bytes([records[p + 1], records[p + 2]]);
         write_line(i + 1, sheet[3 + p], records[p], value, page);

@@ -5,9 +5,10 @@
 pub mod known;
 
 ghost use Rattle.std.specs.Prelude.{◌≡◌};
+ghost use Rattle.shapes.specs.declared.CallError.TheVariants.{Short as NoRoom};
 ghost use Rattle.token.specs.Known.{blank_token};
 
-use shapes::{Entry, KeyNo, Marks, Slot, Term, TermNo};
+use shapes::{CallError, Entry, Marks, Slot, Term, TermNo};
 
 // The terms by number, and how many terms and keys there are. Past the last term every entry is blank. The counts stand beside an
 // array, and in no vector, since memory is fixed and a token is copied as it stands.
@@ -48,6 +49,14 @@ pub struct Token {
 #[derive(Clone, Copy, PartialEq, Eq)]
 pub struct Short;
 
+impl From<Short> for CallError {
+    ghost from_gives = { λ _ error. error ≡ NoRoom };
+
+    fn from(_short: Short) -> CallError {
+        CallError::Short
+    }
+}
+
 // Where a key comes from.
 #[derive(Clone, Copy, PartialEq, Eq)]
 pub enum Origin {
@@ -67,11 +76,6 @@ pub fn fresh() -> Token
         term: Term::Data,
         marks,
     };
-    let slot = Slot {
-        key: KeyNo(0),
-        term: TermNo(0),
-        flags: 0,
-    };
     Token {
         table: Table {
             entries: [entry; 1024],
@@ -86,7 +90,7 @@ pub fn fresh() -> Token
             codes: [0; 1024],
         },
         hands: Hands {
-            slots: [slot; 256],
+            slots: [Slot::BLANK; 256],
             live: [0; 4],
         },
     }

@@ -27,8 +27,8 @@ use Rattle.reader.specs.Reader.{checked, checked_number, body_at, entry_at}
 use Rattle.reader.proofs.GoodEntries.{checked_good, good_body, good_entry, reads_all}
 use Rattle.reader.specs.declared.Header.{Header}
 use Rattle.reader.specs.declared.Malformed.{Malformed}
-use Rattle.writer.specs.declared.WriteError.{WriteError}
-use Rattle.writer.specs.declared.WriteError.TheVariants.{Malformed as Unholdable, Short as NoRoom}
+use Rattle.shapes.specs.declared.CallError.{CallError}
+use Rattle.shapes.specs.declared.CallError.TheVariants.{Malformed as Unholdable, Short as NoRoom}
 use Rattle.writer.specs.Writer.{record_length, handed_number, handed_length, handed_body, handed_commands}
 use Rattle.writer.specs.Writer.{first_unholdable, Wrote, wrote, written_number}
 use Rattle.writer.proofs.Handed.{all_held, handed_count, handed_command, handed_numbered}
@@ -167,13 +167,13 @@ module _ (s : List ℕ) (bytes : Bytes s) {policy n : ℕ} (accepted : checked s
       rw (← g.its_policy, ← g.its_count) (none_lost s bytes g.no_fault)
 
 -- Of the calls from C: a number below 65,536 is the length of a sheet that was written
-sheet_told : (w : Result ℕ WriteError) (long : ℕ) → long < 65536 → answer_number 0 long ≡ written_number w → w ≡ Ok long
+sheet_told : (w : Result ℕ CallError) (long : ℕ) → long < 65536 → answer_number 0 long ≡ written_number w → w ≡ Ok long
 unfolding written_number answer_number
 sheet_told (Ok l) long h e = let same : l ≡ long = omega arith in ap Ok same
 sheet_told (Err (Unholdable place)) long h e = absurd (omega arith)
 sheet_told (Err NoRoom) long h e = absurd (omega arith)
 
-same_wrote : (w : Wrote) {answer : Result ℕ WriteError} {buffer : List ℕ} → w.answer ≡ answer → buffer ≡ w.buffer
+same_wrote : (w : Wrote) {answer : Result ℕ CallError} {buffer : List ℕ} → w.answer ≡ answer → buffer ≡ w.buffer
     → w ≡ record { answer = answer; buffer = buffer }
 same_wrote w e f = λ i. record { answer = e i; buffer = sym f i }
 

@@ -19,8 +19,8 @@ use Rattle.running.specs.Run.{RanSheet}
 use Rattle.running.proofs.RunTold.{fault_told, has_run, answers_counted, known_told}
 use Rattle.reader.specs.declared.Malformed.{Malformed}
 use Rattle.token.specs.declared.Short.{Short}
-use Rattle.vachodien.specs.declared.CallError.{CallError}
-use Rattle.vachodien.specs.declared.CallError.TheVariants.{Malformed as MalformedAt, Short as NoRoom}
+use Rattle.shapes.specs.declared.CallError.{CallError}
+use Rattle.shapes.specs.declared.CallError.TheVariants.{Malformed as MalformedAt, Short as NoRoom}
 use Rattle.vachodien.specs.Replied.{CalledOn, left_report, reported_as, put_as, reported_number, call_number, ReportedInto}
 
 -- the number for what was reported, and what the buffer holds

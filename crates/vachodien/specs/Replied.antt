@@ -8,10 +8,8 @@ use Rattle.token.specs.declared.Token.{Token}
 use Rattle.token.specs.Known.{marked_keys}
 use Rattle.writer.specs.Writer.{wrote, written_number}
 use Rattle.token.specs.declared.Short.{Short}
-use Rattle.writer.specs.declared.WriteError.{WriteError}
-use Rattle.writer.specs.declared.WriteError.TheVariants.{Malformed as Unholdable, Short as NoSheetRoom}
-use Rattle.vachodien.specs.declared.CallError.{CallError}
-use Rattle.vachodien.specs.declared.CallError.TheVariants.{Malformed, Short as NoRoom}
+use Rattle.shapes.specs.declared.CallError.{CallError}
+use Rattle.shapes.specs.declared.CallError.TheVariants.{Malformed, Short as NoRoom}
 
 -- the C call: the sheet has a reply, and the number and the buffer are those of that reply
 pub record CalledOn (s before after : List ℕ) (r : ℕ) : Type 0 where
@@ -42,11 +40,6 @@ put_as false report buffer = buffer
 unfoldable pub reported_number : Result ℕ Short → ℕ
 reported_number (Ok long) = answer_number 0 long
 reported_number (Err short) = answer_number 13 0
-
--- why the writer wrote no sheet, as the call has it
-abbrev pub of_write_error : WriteError → CallError
-of_write_error (Unholdable place) = Malformed place
-of_write_error NoSheetRoom = NoRoom
 
 -- the number that a call gives: with what is given for 0, the place for 12, nothing for 13
 unfoldable pub call_number : Result ℕ CallError → ℕ

@@ -3,50 +3,15 @@
 
 ghost use Rattle.std.specs.Prelude.{◌≡◌};
 ghost use Rattle.reader.specs.Reader.{checked, checked_number};
-ghost use Rattle.vachodien.specs.Replied.{CalledOn, SheetWritten, call_number, of_write_error};
-ghost use Rattle.vachodien.specs.declared.CallError.TheVariants.{Malformed as At, Short as NoRoom};
+ghost use Rattle.vachodien.specs.Replied.{CalledOn, SheetWritten, call_number};
 
-use reader::{Malformed, check};
+use reader::check;
 use report::report;
 use running::run;
-use token::Short;
-use writer::{WriteError, write};
+use shapes::CallError;
+use writer::write;
 
 mod report;
-
-// Why a call gives neither a count nor a length: what was handed over is malformed at a place, or the buffer is too short.
-#[derive(Clone, Copy)]
-enum CallError {
-    Malformed(u16),
-    Short,
-}
-
-impl From<Malformed> for CallError {
-    ghost from_gives = { λ fault e. e ≡ At fault.place };
-
-    fn from(fault: Malformed) -> CallError {
-        CallError::Malformed(fault.place)
-    }
-}
-
-impl From<Short> for CallError {
-    ghost from_gives = { λ _ e. e ≡ NoRoom };
-
-    fn from(_short: Short) -> CallError {
-        CallError::Short
-    }
-}
-
-impl From<WriteError> for CallError {
-    ghost from_gives = { λ w e. e ≡ of_write_error w };
-
-    fn from(error: WriteError) -> CallError {
-        match error {
-            WriteError::Malformed(place) => CallError::Malformed(place),
-            WriteError::Short => CallError::Short,
-        }
-    }
-}
 
 // The answer times 65,536, plus what is given for 0, the place for 12, nothing for 13.
 #[tactic(auto, unfolding(crate::specs::Replied::call_number, sheets::specs::Calls::answer_number))]
@@ -67,7 +32,7 @@ fn reported(sheet: &[u8], buffer: &mut [u8]) -> Result<u16, CallError>
     let mut records = [0u8; 12288];
     let ran = run(sheet, &mut records);
     let header = ran.checked?;
-    Ok(report(header.count, &records, ran.token, buffer)?)
+    Ok(report(header, &records, &ran.token, buffer)?)
 }
 
 // The whole job. The number given is the answer times 65,536, plus the report length for 0, the place for 12, nothing for 13.
@@ -92,18 +57,11 @@ pub fn vachodien_check(sheet: &[u8]) -> u32
     number(counted(sheet))
 }
 
-// The sheet of what is handed over, written into the buffer; its length.
-#[tactic(auto, unfolding(crate::specs::Replied::call_number, writer::specs::Writer::written_number))]
-fn written(policy: u8, count: u16, handed: &[u8], sheet: &mut [u8]) -> Result<u16, CallError>
-    ensures { SheetWritten policy count handed.now sheet.old sheet.new (call_number result) }
-{
-    Ok(write(policy, count, handed, sheet)?)
-}
-
 // Writes the sheet of commands that are handed over in records of six bytes: 0 with the sheet's length, 12 with the place of what no
 // sheet can hold, 13.
+#[tactic(auto, unfolding(crate::specs::Replied::call_number, writer::specs::Writer::written_number))]
 pub fn vachodien_write(policy: u8, count: u16, handed: &[u8], sheet: &mut [u8]) -> u32
     ensures { SheetWritten policy count handed.now sheet.old sheet.new result }
 {
-    number(written(policy, count, handed, sheet))
+    number(write(policy, count, handed, sheet))
 }

@@ -2,9 +2,12 @@
 ghost use Rattle.std.specs.Prelude.{◌≡◌, ◌++◌, ◌*◌, ◌≤◌, length};
 ghost use Rattle.sheets.specs.Bytes.{two};
 ghost use Rattle.sheets.specs.Calls.{over};
+ghost use Rattle.rules.specs.State.{most_terms};
 ghost use Rattle.sheets.specs.Sheets.{most_commands};
+ghost use Rattle.token.specs.Known.{marked_keys};
 ghost use Rattle.vachodien.specs.Replied.{ReportedInto};
 
+use reader::Header;
 use token::known::{known_count, known_keys};
 use token::{Short, Token};
 
@@ -17,12 +20,14 @@ fn put_counts(n: u16, m: u16, out: &mut [u8])
     out[2..4].copy_from_slice(&m.to_be_bytes());
 }
 
-// The report of n commands, where the buffer has room for all of it.
-pub fn report(n: u16, records: &[u8], token: Token, out: &mut [u8]) -> Result<u16, Short>
-    requires n_le_most_commands { n ≤ most_commands }
-    requires n_in_bounds { 3 * n ≤ length records.now }
-    ensures { ReportedInto n records.now token out.old out.new result }
+// The report of a good sheet's commands, where the buffer has room for all of it.
+pub fn report(header: Header, records: &[u8], token: &Token, out: &mut [u8]) -> Result<u16, Short>
+    requires n_le_most_commands { header.count ≤ most_commands }
+    requires n_in_bounds { 3 * header.count ≤ length records.now }
+    requires keys_few { length (marked_keys token.now.table.entries) ≤ most_terms }
+    ensures { ReportedInto header.count records.now token.now out.old out.new result }
 {
+    let n = header.count;
     let m = known_count(token);
     let begin = 4 + 3 * n as usize;
     let long = begin + 2 * m as usize;

@@ -8,14 +8,14 @@ use lib.ListN.{length}
 use borrow.Author.Tests.{le-leb, lt-leb}
 use Rattle.sheets.specs.Calls.{over}
 use Rattle.std.specs.Prelude.{Result, Ok, Err}
-use Rattle.writer.specs.declared.WriteError.{WriteError}
-use Rattle.writer.specs.declared.WriteError.TheVariants.{Malformed, Short}
+use Rattle.shapes.specs.declared.CallError.{CallError}
+use Rattle.shapes.specs.declared.CallError.TheVariants.{Malformed, Short}
 use Rattle.writer.specs.Writer.{first_unholdable, asked_sheet, sheet_into, wrote_as, wrote}
 use Rattle.writer.specs.Parts.{AllHeld, found_as}
 use Rattle.writer.proofs.Handed.{all_held, asked_most}
 
 -- what was found, from what is told of it
-refused : (o : Option ℕ) (long : ℕ) (sheet before : List ℕ) (error : WriteError) → found_as o long ≡ Err error
+refused : (o : Option ℕ) (long : ℕ) (sheet before : List ℕ) (error : CallError) → found_as o long ≡ Err error
     → wrote_as o sheet before ≡ record { answer = Err error; buffer = before }
 unfolding found_as wrote_as
 refused none long sheet before error e = cc
@@ -27,11 +27,11 @@ found_long none whole long e = (refl, cc)
 found_long (some i) whole long e = (cc, cc)
 
 module _ (policy n : ℕ) (handed : List ℕ) where
-  abbrev told : Result ℕ WriteError
+  abbrev told : Result ℕ CallError
   told = found_as (first_unholdable policy n handed) (length (asked_sheet policy n handed))
 
   -- what no sheet can hold is answered by its place, and nothing is written
-  pub answers_fault : {error : WriteError} → Err error ≡ told → (before : List ℕ)
+  pub answers_fault : {error : CallError} → Err error ≡ told → (before : List ℕ)
       → wrote policy n handed before ≡ record { answer = Err error; buffer = before }
   unfolding wrote
   answers_fault e before = refused _ _ _ before _ (sym e)

@@ -10,7 +10,7 @@ use Rattle.sheets.specs.Sheets.{policy_number, part_bytes, parts_bytes, body_byt
 use Rattle.sheets.specs.Calls.{over}
 use Rattle.sheets.proofs.Opened.{sheets_opened}
 use Rattle.std.specs.Prelude.{Ok, Err}
-use Rattle.writer.specs.declared.WriteError.TheVariants.{Malformed, Short}
+use Rattle.shapes.specs.declared.CallError.TheVariants.{Malformed, Short}
 use Rattle.writer.specs.Writer.{handed_number, handed_length, handed_body, handed_commands, unholdable, first_unholdable}
 use Rattle.writer.specs.Writer.{asked_sheet, sheet_into, wrote_as, wrote}
 use Rattle.writer.proofs.Unique.{Result}

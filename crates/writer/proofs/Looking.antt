@@ -15,7 +15,7 @@ use Rattle.sheets.specs.Bytes.{Bytes}
 use Rattle.sheets.specs.Sheets.{most_commands, bodies, bodies_begin}
 use Rattle.sheets.proofs.Places.{NoneBelow, smallest_some, smallest_none}
 use Rattle.std.specs.Prelude.{Ok, Err}
-use Rattle.writer.specs.declared.WriteError.TheVariants.{Malformed}
+use Rattle.shapes.specs.declared.CallError.TheVariants.{Malformed}
 use Rattle.writer.specs.Writer.{handed_body, handed_commands, unholdable, first_unholdable, asked_sheet}
 use Rattle.writer.specs.Parts.{found_as, Held}
 use Rattle.writer.proofs.Handed.{passes, bodies_next_length, bodies_few, asked_length}

@@ -13,24 +13,24 @@ use Rattle.sheets.specs.Calls.{answer_number, over}
 use Rattle.sheets.proofs.Calls.{over_length, over_front, over_behind}
 use Rattle.sheets.proofs.Places.{Smallest, smallest_some}
 use Rattle.std.specs.Prelude.{Result as Outcome, Ok, Err}
-use Rattle.writer.specs.declared.WriteError.{WriteError}
-use Rattle.writer.specs.declared.WriteError.TheVariants.{Malformed, Short}
+use Rattle.shapes.specs.declared.CallError.{CallError}
+use Rattle.shapes.specs.declared.CallError.TheVariants.{Malformed, Short}
 use Rattle.writer.specs.Writer.{unholdable, first_unholdable, asked_sheet, Wrote, sheet_into, wrote_as, wrote}
 use Rattle.writer.specs.Writer.{written_number}
 
 -- what the contract says of an answer and of the buffer afterwards
-abbrev pub Result : (policy n : ℕ) (handed buffer : List ℕ) → Outcome ℕ WriteError → List ℕ → Type 0
+abbrev pub Result : (policy n : ℕ) (handed buffer : List ℕ) → Outcome ℕ CallError → List ℕ → Type 0
 Result policy n handed buffer r after = wrote policy n handed buffer ≡ record { answer = r; buffer = after }
 
 -- two results that meet the contract are equal
-pub one_result : (policy n : ℕ) (handed buffer : List ℕ) {r r' : Outcome ℕ WriteError} {after after' : List ℕ}
+pub one_result : (policy n : ℕ) (handed buffer : List ℕ) {r r' : Outcome ℕ CallError} {after after' : List ℕ}
     → Result policy n handed buffer r after → Result policy n handed buffer r' after' → (r ≡ r') × (after ≡ after')
 one_result policy n handed buffer e e' =
     (ap (λ (w : Wrote). w.answer) (sym e ∙ e'), ap (λ (w : Wrote). w.buffer) (sym e ∙ e'))
 
 -- what each answer says: 12 at its place, and nothing is written; 13, and nothing is written; 0, the sheet's length, and the sheet
 -- stands over the front of the buffer
-abbrev pub Says : (fault : Option ℕ) (sheet buffer : List ℕ) → Outcome ℕ WriteError → List ℕ → Type 0
+abbrev pub Says : (fault : Option ℕ) (sheet buffer : List ℕ) → Outcome ℕ CallError → List ℕ → Type 0
 Says fault sheet buffer (Err (Malformed place)) after = (fault ≡ some place) × (after ≡ buffer)
 Says fault sheet buffer (Err Short) after = (fault ≡ none) × (length buffer < length sheet) × (after ≡ buffer)
 Says fault sheet buffer (Ok long) after =
@@ -48,7 +48,7 @@ unfolding wrote_as
 as_says none sheet buffer = into_says sheet buffer _ refl
 as_says (some place) sheet buffer = (refl, refl)
 
-says_as : (fault : Option ℕ) (sheet buffer : List ℕ) (r : Outcome ℕ WriteError) (after : List ℕ) → Says fault sheet buffer r after
+says_as : (fault : Option ℕ) (sheet buffer : List ℕ) (r : Outcome ℕ CallError) (after : List ℕ) → Says fault sheet buffer r after
     → wrote_as fault sheet buffer ≡ record { answer = r; buffer = after }
 unfolding wrote_as sheet_into
 says_as fault sheet buffer (Err (Malformed place)) after (f, w) = rw (f, w)
@@ -57,7 +57,7 @@ says_as fault sheet buffer (Ok long) after (f, l, s, w) = rw (f, s, w, le-leb _ 
 
 -- .. exactly
 module _ (policy n : ℕ) (handed buffer : List ℕ) where
-  pub exactly : (r : Outcome ℕ WriteError) (after : List ℕ)
+  pub exactly : (r : Outcome ℕ CallError) (after : List ℕ)
       → Result policy n handed buffer r after
       ↔ Says (first_unholdable policy n handed) (asked_sheet policy n handed) buffer r after
   unfolding wrote
@@ -97,7 +97,7 @@ module _ (policy n : ℕ) (handed buffer : List ℕ) where
     behind_stays = rw (length_told, ((exactly (Ok long) after).0 e).3) (over_behind (asked_sheet policy n handed) buffer)
 
   -- the buffer's length never changes
-  pub same_length : (r : Outcome ℕ WriteError) (after : List ℕ) → Result policy n handed buffer r after
+  pub same_length : (r : Outcome ℕ CallError) (after : List ℕ) → Result policy n handed buffer r after
       → length after ≡ length buffer
   same_length (Err (Malformed place)) after e = ap length (malformed_writes_nothing e)
   same_length (Err Short) after e = ap length (short_writes_nothing e)

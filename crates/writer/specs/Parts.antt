@@ -5,12 +5,12 @@ use Rattle.std.proofs.Math.Option.{Option as Maybe, none, some}
 use Rattle.sheets.specs.Sheets.{most_commands}
 use Rattle.sheets.specs.Faults.{known_number, body_length}
 use Rattle.writer.specs.declared.records.Handed.{Handed}
-use Rattle.writer.specs.declared.WriteError.{WriteError}
-use Rattle.writer.specs.declared.WriteError.TheVariants.{Malformed}
+use Rattle.shapes.specs.declared.CallError.{CallError}
+use Rattle.shapes.specs.declared.CallError.TheVariants.{Malformed}
 use Rattle.writer.specs.Writer.{record_length, handed_number, handed_length, handed_body, unholdable}
 
 -- what is found, by the place of what no sheet can hold and the sheet's length
-unfoldable pub found_as : (fault : Maybe ℕ) (long : ℕ) → Result ℕ WriteError
+unfoldable pub found_as : (fault : Maybe ℕ) (long : ℕ) → Result ℕ CallError
 found_as none long = Ok long
 found_as (some place) long = Err (Malformed place)
 

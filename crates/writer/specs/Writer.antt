@@ -10,8 +10,8 @@ use Rattle.sheets.specs.Sheets.{most_commands, sheet_bytes}
 use Rattle.sheets.specs.Faults.{known_number, body_length, smallest}
 use Rattle.sheets.specs.Calls.{answer_number, over}
 use Rattle.sheets.specs.Reading.{read_command, read_policy}
-use Rattle.writer.specs.declared.WriteError.{WriteError}
-use Rattle.writer.specs.declared.WriteError.TheVariants.{Malformed, Short}
+use Rattle.shapes.specs.declared.CallError.{CallError}
+use Rattle.shapes.specs.declared.CallError.TheVariants.{Malformed, Short}
 
 abbrev pub record_length : ℕ
 record_length = 6
@@ -48,7 +48,7 @@ asked_sheet policy n handed = sheet_bytes (read_policy policy) (handed_commands 
 
 -- what is answered, and what the buffer holds afterwards
 pub record Wrote : Type 0 where
-  pub answer : Result ℕ WriteError
+  pub answer : Result ℕ CallError
   pub buffer : List ℕ
 
 unfoldable pub sheet_into : (fits : Bool) (sheet buffer : List ℕ) → Wrote
@@ -63,7 +63,7 @@ unfoldable pub wrote : (policy n : ℕ) (handed buffer : List ℕ) → Wrote
 wrote policy n handed buffer = wrote_as (first_unholdable policy n handed) (asked_sheet policy n handed) buffer
 
 -- this paper's number for each case
-unfoldable pub written_number : Result ℕ WriteError → ℕ
+unfoldable pub written_number : Result ℕ CallError → ℕ
 written_number (Ok long) = answer_number 0 long
 written_number (Err (Malformed place)) = answer_number 12 place
 written_number (Err Short) = answer_number 13 0

@@ -7,41 +7,35 @@ ghost use Rattle.writer.specs.Parts.{found_as};
 
 use put::Asked;
 use records::command_at;
-use shapes::{MOST_COMMANDS, MOST_POLICY};
+use shapes::parse::bodies_begin;
+use shapes::{CallError, MOST_COMMANDS, MOST_POLICY};
 
 mod put;
 mod records;
 
-// Why no sheet was written: the place of what no sheet can hold, or a buffer that is too short.
-#[derive(Clone, Copy, PartialEq, Eq)]
-pub enum WriteError {
-    Malformed(u16),
-    Short,
-}
-
 // Looks through all that is handed over before anything is written: the length of its sheet. Policy, count and what is handed over
 // come apart here, since an `Asked` is what was looked through.
-fn look_through(policy: u8, count: u16, handed: &[u8]) -> Result<usize, WriteError>
+fn look_through(policy: u8, count: u16, handed: &[u8]) -> Result<usize, CallError>
     ensures { result ≡ found_as (first_unholdable policy count handed.now) (length (asked_sheet policy count handed.now)) }
 {
     if MOST_POLICY < policy || MOST_COMMANDS < count {
-        return Err(WriteError::Malformed(0));
+        return Err(CallError::Malformed(0));
     }
-    let mut long = 3 + 3 * count as usize;
+    let mut long = bodies_begin(count);
     for i in 0..count {
-        let command = command_at(handed, i).ok_or(WriteError::Malformed(i + 1))?;
+        let command = command_at(handed, i).ok_or(CallError::Malformed(i + 1))?;
         long += command.body.len();
     }
     Ok(long)
 }
 
 // Writes the sheet of the first `count` commands that are handed over, in records of six bytes: its length.
-pub fn write(policy: u8, count: u16, handed: &[u8], out: &mut [u8]) -> Result<u16, WriteError>
+pub fn write(policy: u8, count: u16, handed: &[u8], out: &mut [u8]) -> Result<u16, CallError>
     ensures { wrote policy count handed.now out.old ≡ record { answer = result; buffer = out.new } }
 {
     let long = look_through(policy, count, handed)?;
     if out.len() < long {
-        return Err(WriteError::Short);
+        return Err(CallError::Short);
     }
     let asked = Asked {
         policy,

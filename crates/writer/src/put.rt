@@ -7,6 +7,7 @@ ghost use Rattle.writer.specs.Writer.{handed_commands, asked_sheet};
 ghost use Rattle.writer.specs.Parts.{AllHeld, CommandAt};
 
 use crate::records::{Handed, command_at};
+use shapes::parse::bodies_begin;
 
 // A policy, and the first `count` commands that are handed over.
 #[derive(Clone, Copy)]
@@ -43,7 +44,7 @@ impl<'a> Asked<'a> {
         ensures { out.new
             ≡ over (contents (bodies_begin self.entry.count) (handed_commands self.entry.handed.now self.entry.count)) out.old }
     {
-        let mut offset: u16 = 3 + 3 * self.count;
+        let mut offset = bodies_begin(self.count) as u16;
         for i in 0..self.count {
             let command = self.command(i);
             put_three(&mut out[3 * i as usize..], command.number, offset);
@@ -72,7 +73,7 @@ impl<'a> Asked<'a> {
     {
         put_three(out, self.policy, self.count);
         self.put_contents(&mut out[3..]);
-        let begin = 3 + 3 * self.count as usize;
+        let begin = bodies_begin(self.count);
         self.put_bodies(&mut out[begin..]);
     }
 }

@@ -2,7 +2,10 @@
 -- where it fits (SheetReplied).
 use Prim.Native.Nat.{ℕ}
 use native.Mathlib.Omega.{arith}
-use lib.ListN.{length-replicate}
+use mathlib.Core.Path.{◌≡◌}
+use borrow.Author.Rules.{rules}
+use lib.ListN.{length, length-replicate}
+use Rattle.vachodien.proofs.ReportWritten.{marked_few}
 use Rattle.running.proofs.RunTold.{records_kept, few_commands}
 use Rattle.vachodien.specs.Replied.{call_number, reported_number}
 use Rattle.vachodien.proofs.SheetReplied.{malformed_called, no_room, good_called}
@@ -15,6 +18,12 @@ pub report-requires-clause-n_in_bounds : goal.report-requires-clause-n_in_bounds
 report-requires-clause-n_in_bounds c =
     let few = few_commands c.run-ran.ensures c.in_ok-header.was in
     omega (arith, few, records_kept c.run-ran.ensures (length-replicate {A = ℕ} 12288 0))
+
+pub report-requires-clause-keys_few : goal.report-requires-clause-keys_few
+report-requires-clause-keys_few c =
+    let entries = c.run-ran.result.token.table.entries in
+    let whole : length entries ≡ 1024 = search rules in
+    omega (arith, marked_few entries, whole)
 
 pub returns-in_err-header : goal.returns-in_err-header
 returns-in_err-header c = malformed_called c.run-ran.ensures c.in_err-header.was _ c.from_residual.ensures.1 _

@@ -30,27 +30,27 @@ bounds-links-i c = seal_inside c.loop-link.invariant _ c.in-Some.is
 pub bounds-table-i : goal.bounds-table-i
 bounds-table-i c = seal_inside c.loop-link.invariant _ c.in-Some.is
 
-pub push-requires-then-leaks : goal.push-requires-then-leaks
-push-requires-then-leaks c = (
+pub push-requires-then-is_unknown_key : goal.push-requires-then-is_unknown_key
+push-requires-then-is_unknown_key c = (
   omega arith,
-  learn_room c.loop-link.invariant _ c.in-Some.is c.payload_no-q.ensures (sym c.leaks.ensures ∙ c.if-leaks.true)
-      c.known-then-leaks.ensures c.key_of-then-leaks.ensures,
+  learn_room c.loop-link.invariant _ c.in-Some.is c.payload_no-q.ensures (sym c.is_unknown_key.ensures ∙ c.if-is_unknown_key.true)
+      c.known-then-is_unknown_key.ensures c.key_of-then-is_unknown_key.ensures,
 )
 
-pub loop-link-smaller-then-leaks : goal.loop-link-smaller-then-leaks
-loop-link-smaller-then-leaks c = rw c.push-then-leaks.ensures.items
-    (learn_less c.loop-link.invariant _ c.in-Some.is c.payload_no-q.ensures (sym c.leaks.ensures ∙ c.if-leaks.true)
-    c.known-then-leaks.ensures c.key_of-then-leaks.ensures)
+pub loop-link-smaller-then-is_unknown_key : goal.loop-link-smaller-then-is_unknown_key
+loop-link-smaller-then-is_unknown_key c = rw c.push-then-is_unknown_key.ensures.items
+    (learn_less c.loop-link.invariant _ c.in-Some.is c.payload_no-q.ensures (sym c.is_unknown_key.ensures ∙ c.if-is_unknown_key.true)
+    c.known-then-is_unknown_key.ensures c.key_of-then-is_unknown_key.ensures)
 
-pub loop-link-preserved-then-leaks : goal.loop-link-preserved-then-leaks
-loop-link-preserved-then-leaks c = rw c.push-then-leaks.ensures.items
-    (follow_learns c.loop-link.invariant _ c.in-Some.is c.payload_no-q.ensures (sym c.leaks.ensures ∙ c.if-leaks.true)
-    c.known-then-leaks.ensures c.key_of-then-leaks.ensures)
+pub loop-link-preserved-then-is_unknown_key : goal.loop-link-preserved-then-is_unknown_key
+loop-link-preserved-then-is_unknown_key c = rw c.push-then-is_unknown_key.ensures.items
+    (follow_learns c.loop-link.invariant _ c.in-Some.is c.payload_no-q.ensures (sym c.is_unknown_key.ensures ∙ c.if-is_unknown_key.true)
+    c.known-then-is_unknown_key.ensures c.key_of-then-is_unknown_key.ensures)
 
 pub loop-link-smaller : goal.loop-link-smaller
 loop-link-smaller c = pass_less c.loop-link.invariant _ c.in-Some.is c.payload_no-q.ensures
-    (sym c.leaks.ensures ∙ c.if-leaks.false)
+    (sym c.is_unknown_key.ensures ∙ c.if-is_unknown_key.false)
 
 pub loop-link-preserved : goal.loop-link-preserved
 loop-link-preserved c = follow_passes c.loop-link.invariant _ c.in-Some.is c.payload_no-q.ensures
-    (sym c.leaks.ensures ∙ c.if-leaks.false)
+    (sym c.is_unknown_key.ensures ∙ c.if-is_unknown_key.false)

@@ -2,20 +2,26 @@
 use native.Mathlib.Omega.{arith}
 use mathlib.Core.Path.{ap}
 use lib.ListN.{length}
+use Rattle.sheets.specs.Sheets.{bodies_begin}
 use Rattle.writer.proofs.Handed.{body_short}
 use Rattle.writer.proofs.Putting.{listing_none, listing_small, listing_next}
 use Rattle.writer.proofs.put.Asked.put_contents.Goals as goal
 
 pub loop-i-init : goal.loop-i-init
-loop-i-init c = listing_none _ _ _
+unfolding bodies_begin
+loop-i-init c = rw c.bodies_begin-offset.ensures (listing_none _ _ _)
 
 pub overflow_cast-offset : goal.overflow_cast-offset
-overflow_cast-offset c =
+unfolding bodies_begin
+overflow_cast-offset c = omega (arith, c.bodies_begin-offset.ensures, c.args.self.held.few)
+
+pub overflow_cast-offset-in-loop-i : goal.overflow_cast-offset-in-loop-i
+overflow_cast-offset-in-loop-i c =
     let (held, numbered, same) = c.command-command.ensures in
     omega (arith, body_short _ _ held, ap length same)
 
-pub overflow_add-offset-in-loop-i : goal.overflow_add-offset-in-loop-i
-overflow_add-offset-in-loop-i c =
+pub overflow_add-offset : goal.overflow_add-offset
+overflow_add-offset c =
     let (held, numbered, same) = c.command-command.ensures in
     omega (
       arith,

@@ -9,7 +9,7 @@ ghost use Rattle.running.specs.Direct.{Reached};
 use std::io;
 use token::{Token, fresh};
 
-// A command, by its number and its body.
+// A command, by its number and its body, which is what a direct call takes; a struct of the two would take five lines for each below.
 type Command<'a> = (u8, &'a [u8]);
 
 // One command, so many times, from the token that the calls before it left.

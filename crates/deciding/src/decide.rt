@@ -2,7 +2,7 @@
 // a row of document 01's table of commands, its refusals asked in the document's order: so what several rows ask stands in each, in full.
 #![tactic(auto, using(crate::proofs::Asking::tests), unfolding(crate::proofs::Asking::asking_opened))]
 
-ghost use Rattle.std.specs.Prelude.{◌≡◌, ◌&&◌, [], ◌∷◌, ◌<◌, leb};
+ghost use Rattle.std.specs.Prelude.{◌≡◌, ◌&&◌, [], ◌∷◌, leb};
 ghost use Rattle.rules.specs.Refusals.{◌if◌, first};
 ghost use Rattle.rules.specs.State.{most_terms};
 ghost use Rattle.shapes.specs.Entries.{is_sealed_under};

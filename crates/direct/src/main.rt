@@ -73,5 +73,7 @@ fn sequences<W: Write>(input: &[u8], out: &mut W) -> io::Result<()> {
 fn main(rt: HostRuntime) -> io::Result<()> {
     let mut input = ArrayVec::<u8, 65536>::new();
     io::copy(&mut rt.stdin().take(65536), &mut input)?;
-    sequences(&input, &mut io::writer(&rt))
+    let mut out = ArrayVec::<u8, 98304>::new();
+    sequences(&input, &mut out)?;
+    io::writer(&rt).write_all(&out)
 }

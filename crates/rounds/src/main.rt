@@ -1,5 +1,6 @@
 // The program `rounds`: one sheet from standard input, at most its first 32,768 bytes, and its text to standard output. What is
-// printed is made by `text_of`; here is only reading and writing. Where the input fails before its end nothing is printed.
+// printed is made by `text_of`; here is only reading and writing. Where the input fails before its end nothing is printed. The sheet is read
+// into an `ArrayVec`, so that nothing is allocated.
 #![tactic(auto)]
 
 use arrayvec::ArrayVec;

@@ -1,4 +1,4 @@
--- A walk begins: term t has become held, and its key waits on the stack. A leak followed from there is followed from the entries
+-- A walk begins: term t has become held, and its key waits. A leak followed from there is followed from the entries
 -- before. Rests on LeakWalk.antt and LeakMark.antt.
 use Prim.Native.Nat.{ℕ, suc, ◌<◌}
 use mathlib.Core.Path.{◌≡◌, refl, sym, ◌∙◌, ap, subst, fun_ext}

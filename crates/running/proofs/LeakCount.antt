@@ -1,4 +1,4 @@
--- How many entries are not held: what bounds the stack of keys and makes a walk end. Rests on the definitions alone.
+-- How many entries are not held: what bounds how many keys wait and makes a walk end. Rests on the definitions alone.
 use Prim.Native.Nat.{ℕ, zero, suc, ◌≤◌, ◌<◌}
 use mathlib.Core.Path.{◌≡◌}
 use mathlib.Core.Bool.{true, false, cond}

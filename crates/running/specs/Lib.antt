@@ -2,6 +2,7 @@
 pub mod Views
 pub mod Leaks
 pub mod Applied
+pub mod Stores
 pub mod Said
 pub mod Direct
 pub mod Advance

@@ -13,7 +13,8 @@ pub const MOST_COMMANDS: u16 = 4096;
 
 pub const MOST_TERMS: u16 = 1024;
 
-// Handle numbers, key numbers and term numbers are three separate counts.
+// Handle numbers, key numbers and term numbers are three separate counts. Their numbers are widened by `as`, here and above: the check proves
+// that it loses nothing, and `from` would say no more.
 #[derive(Clone, Copy, PartialEq, Eq)]
 pub struct HandleNo(pub u8);
 

@@ -1,6 +1,6 @@
 // The page: the buffer that the text is written into, with the place behind what stands there so far. Bytes, and numbers in decimal,
 // are put at that place.
-ghost use Rattle.std.specs.Prelude.{◌+◌, ◌≡◌, ◌∷◌, [], ◌++◌, length};
+ghost use Rattle.std.specs.Prelude.{◌+◌, ◌∷◌, [], ◌++◌, length};
 ghost use Rattle.text.specs.Text.{decimal};
 ghost use Rattle.text.specs.Writing.{HasRoom, Puts};
 
@@ -36,7 +36,7 @@ impl Page<'_> {
         self.byte(after);
     }
 
-    // A number in decimal, and the blank or line feed behind it.
+    // A number in decimal, and the blank or line feed behind it. By `itoa`, since `write!` answers a Result of which no clause says that it is Ok.
     pub fn number(&mut self, x: u16, after: u8)
         requires { HasRoom 6 self.old }
         ensures { Puts 6 (decimal x ++ after ∷ []) self.old self.new }

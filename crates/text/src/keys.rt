@@ -1,5 +1,5 @@
 // How many keys of a token are known, and their lines.
-ghost use Rattle.std.specs.Prelude.{◌≡◌, ◌≤◌, ◌∷◌, [], ◌++◌, length};
+ghost use Rattle.std.specs.Prelude.{◌≡◌, ◌≤◌, ◌++◌, length};
 ghost use Rattle.token.specs.Known.{marked_keys};
 ghost use Rattle.text.specs.Text.{known_line, key_line};
 ghost use Rattle.text.specs.Printing.{own_word, marked_line, marked_lines};

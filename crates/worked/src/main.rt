@@ -78,7 +78,8 @@ const EXERCISES: [(u8, &[u8]); 11] = [
     (b'J', b"\x02\x00"),
 ];
 
-// Prints the line with the exercise's letter, then the text of its sheet, whole.
+// Prints the line with the exercise's letter, then the text of its sheet, whole. The last two lines stand in `rounds` too: in the library they
+// would be a function that owes what was printed.
 fn show<R: Print>(rt: &R, letter: u8, sheet: &[u8]) -> io::Result<()> {
     io::writer(rt).write_all(&[letter, b'\n'])?;
     let mut out = [0u8; 131072];

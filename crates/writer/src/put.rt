@@ -20,7 +20,7 @@ pub struct Asked<'a> {
     ghost bytes: { Bytes handed.now },
 }
 
-// A byte and a number's two bytes: a sheet's header, and each entry.
+// A byte and a number's two bytes: a sheet's header, and each entry. (A record of a run is put likewise, in a crate beside this one.)
 fn put_three(out: &mut [u8], first: u8, number: u16)
     requires { 3 ≤ length out.old }
     ensures { out.new ≡ over (first ∷ two number) out.old }

@@ -80,7 +80,7 @@ fn a_stack_of_160_kb() {
         panic!("three numbers expected: {said}");
     };
     assert_eq!(whole, 163_840);
-    assert!(touched - idle < 120 * 1_024, "{said}");
+    assert!(touched - idle < 72 * 1_024, "{said}");
 }
 
 #[test]

@@ -14,4 +14,4 @@ overflow_cast-result c =
 
 pub returns : goal.returns
 returns c = report_whole _ _ _ c.requires.n_in_bounds _ _ c.known_count-m.ensures c.if-out-long.false _ c.put_counts.ensures _
-    c.copy_from_slice.ensures.after _ refl _ _ c.known_keys-listed.ensures
+    c.copy_from_slice.ensures.after _ refl _ _ c.known_keys.ensures

@@ -49,7 +49,7 @@ extern "C" {
 #define VACHODIEN_LONGEST_REPORT 14340u
 
 /*
- * Bytes of stack that are enough for a thread that makes a call. Measured: a call of vachodien_report, the largest, touches 60,344
+ * Bytes of stack that are enough for a thread that makes a call. Measured: a call of vachodien_report, the largest, touches 56,248
  * bytes, on an empty sheet as on the longest, and the others a few hundred; the rest is for the thread itself, and room. The tests
  * run the largest sheets of every kind on a thread of this size, and fail where a call touches 72 KB; host/c/lend.c measures it.
  */

@@ -50,9 +50,9 @@ fn write_keys(entries: &[Entry; 1024], page: &mut Page)
 }
 
 // How many keys are known, and their lines.
-pub fn write_known_keys(token: &Token, page: &mut Page)
+pub fn write_known_keys(token: Token, page: &mut Page)
     requires { HasRoom 20492 page.old }
-    ensures { Puts 20492 (known_line (length (marked_keys token.now.table.entries)) ++ marked_lines token.now.table.entries)
+    ensures { Puts 20492 (known_line (length (marked_keys token.table.entries)) ++ marked_lines token.table.entries)
         page.old page.new }
 {
     page.told(b"known", known_count(token), b'\n');

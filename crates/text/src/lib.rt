@@ -27,16 +27,17 @@ pub struct Tally {
 }
 
 // The text of a run: of the sheet's commands with their records, three bytes each, and of the token at the end. The records come in the
-// whole buffer that `run` lends, so their count stands beside them, in the header.
+// whole buffer that `run` lends, so their count stands beside them, in the header; the token comes by value, since of one
+// that is lent the caller keeps a copy.
 fn write_run(
     sheet: &[u8],
     header: Header,
     records: &[u8; 12288],
-    token: &Token,
+    token: Token,
     out: &mut [u8; 131072],
 ) -> usize
     requires { (header.count ≤ 4096) × (3 + 3 * header.count ≤ length sheet.now) }
-    ensures { Printed (run_text header.policy sheet.now header.count records.now token.now.table.entries)
+    ensures { Printed (run_text header.policy sheet.now header.count records.now token.table.entries)
         out.old out.new result }
 {
     let mut page = Page { buffer: out, at: 0 };
@@ -64,6 +65,6 @@ pub fn text_of(sheet: &[u8], out: &mut [u8; 131072]) -> usize
     let ran = run(sheet, &mut records);
     match ran.checked {
         Err(fault) => write_malformed(fault.place, out),
-        Ok(header) => write_run(sheet, header, &records, &ran.token, out),
+        Ok(header) => write_run(sheet, header, &records, ran.token, out),
     }
 }

@@ -7,7 +7,7 @@ ghost use Rattle.vachodien.specs.Replied.{CalledOn, SheetWritten, call_number};
 
 use reader::check;
 use report::report;
-use running::run;
+use running::{Ran, run};
 use shapes::CallError;
 use writer::write;
 
@@ -30,9 +30,9 @@ fn reported(sheet: &[u8], buffer: &mut [u8]) -> Result<u16, CallError>
     ensures { CalledOn sheet.now buffer.old buffer.new (call_number result) }
 {
     let mut records = [0u8; 12288];
-    let ran = run(sheet, &mut records);
-    let header = ran.checked?;
-    Ok(report(header, &records, &ran.token, buffer)?)
+    let Ran { checked, token } = run(sheet, &mut records);
+    let header = checked?;
+    Ok(report(header, &records, token, buffer)?)
 }
 
 // The whole job. The number given is the answer times 65,536, plus the report length for 0, the place for 12, nothing for 13.

@@ -2,9 +2,7 @@
 ghost use Rattle.std.specs.Prelude.{◌≡◌, ◌++◌, ◌*◌, ◌≤◌, length};
 ghost use Rattle.sheets.specs.Bytes.{two};
 ghost use Rattle.sheets.specs.Calls.{over};
-ghost use Rattle.rules.specs.State.{most_terms};
 ghost use Rattle.sheets.specs.Sheets.{most_commands};
-ghost use Rattle.token.specs.Known.{marked_keys};
 ghost use Rattle.vachodien.specs.Replied.{ReportedInto};
 
 use reader::Header;
@@ -20,12 +18,12 @@ fn put_counts(n: u16, m: u16, out: &mut [u8])
     out[2..4].copy_from_slice(&m.to_be_bytes());
 }
 
-// The report of a good sheet's commands, where the buffer has room for all of it.
-pub fn report(header: Header, records: &[u8], token: &Token, out: &mut [u8]) -> Result<u16, Short>
+// The report of a good sheet's commands, where the buffer has room for all of it. The token comes by value: of one that is lent the caller
+// keeps a copy (48 KB more of stack).
+pub fn report(header: Header, records: &[u8], token: Token, out: &mut [u8]) -> Result<u16, Short>
     requires n_le_most_commands { header.count ≤ most_commands }
     requires n_in_bounds { 3 * header.count ≤ length records.now }
-    requires keys_few { length (marked_keys token.now.table.entries) ≤ most_terms }
-    ensures { ReportedInto header.count records.now token.now out.old out.new result }
+    ensures { ReportedInto header.count records.now token out.old out.new result }
 {
     let n = header.count;
     let m = known_count(token);

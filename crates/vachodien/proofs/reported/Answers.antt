@@ -2,36 +2,27 @@
 -- where it fits (SheetReplied).
 use Prim.Native.Nat.{ℕ}
 use native.Mathlib.Omega.{arith}
-use mathlib.Core.Path.{◌≡◌}
-use borrow.Author.Rules.{rules}
-use lib.ListN.{length, length-replicate}
-use Rattle.vachodien.proofs.ReportWritten.{marked_few}
+use lib.ListN.{length-replicate}
 use Rattle.running.proofs.RunTold.{records_kept, few_commands}
 use Rattle.vachodien.specs.Replied.{call_number, reported_number}
 use Rattle.vachodien.proofs.SheetReplied.{malformed_called, no_room, good_called}
 use Rattle.vachodien.proofs.reported.Goals as goal
 
 pub report-requires-clause-n_le_most_commands : goal.report-requires-clause-n_le_most_commands
-report-requires-clause-n_le_most_commands c = few_commands c.run-ran.ensures c.in_ok-header.was
+report-requires-clause-n_le_most_commands c = few_commands c.run-checked.ensures c.in_ok-header.was
 
 pub report-requires-clause-n_in_bounds : goal.report-requires-clause-n_in_bounds
 report-requires-clause-n_in_bounds c =
-    let few = few_commands c.run-ran.ensures c.in_ok-header.was in
-    omega (arith, few, records_kept c.run-ran.ensures (length-replicate {A = ℕ} 12288 0))
-
-pub report-requires-clause-keys_few : goal.report-requires-clause-keys_few
-report-requires-clause-keys_few c =
-    let entries = c.run-ran.result.token.table.entries in
-    let whole : length entries ≡ 1024 = search rules in
-    omega (arith, marked_few entries, whole)
+    let few = few_commands c.run-checked.ensures c.in_ok-header.was in
+    omega (arith, few, records_kept c.run-checked.ensures (length-replicate {A = ℕ} 12288 0))
 
 pub returns-in_err-header : goal.returns-in_err-header
-returns-in_err-header c = malformed_called c.run-ran.ensures c.in_err-header.was _ c.from_residual.ensures.1 _
+returns-in_err-header c = malformed_called c.run-checked.ensures c.in_err-header.was _ c.from_residual.ensures.1 _
 
 pub returns-in_err-report : goal.returns-in_err-report
 returns-in_err-report c =
-    good_called c.run-ran.ensures c.in_ok-header.was _ _ _ c.report.ensures _ (no_room _ _ _ c.from_residual-in_err-report.ensures.1 c.in_err-report.was)
+    good_called c.run-checked.ensures c.in_ok-header.was _ _ _ c.report.ensures _ (no_room _ _ _ c.from_residual-in_err-report.ensures.1 c.in_err-report.was)
 
 pub returns : goal.returns
 unfolding call_number reported_number
-returns c = good_called c.run-ran.ensures c.in_ok-header.was _ _ _ c.report.ensures _ (rw c.in_ok-report.was)
+returns c = good_called c.run-checked.ensures c.in_ok-header.was _ _ _ c.report.ensures _ (rw c.in_ok-report.was)

@@ -1,7 +1,7 @@
 // The live handles, as four words of 64 bits.
 #![tactic(auto)]
 
-ghost use Rattle.std.specs.Prelude.{◌≡◌};
+ghost use Rattle.std.specs.Prelude.{◌≡◌, true, false};
 ghost use Rattle.handles.specs.Live.{bit, free_in, count_in, BitSet};
 
 use shapes::HandleNo;
@@ -42,4 +42,18 @@ pub fn set(live: [u64; 4], h: HandleNo, to: bool) -> [u64; 4]
         words[word] &= !bit;
     }
     words
+}
+
+// The words with the handle's bit set.
+pub fn set_live(live: [u64; 4], h: HandleNo) -> [u64; 4]
+    ensures { BitSet live h.0 true result }
+{
+    set(live, h, true)
+}
+
+// The words with the handle's bit cleared.
+pub fn set_dead(live: [u64; 4], h: HandleNo) -> [u64; 4]
+    ensures { BitSet live h.0 false result }
+{
+    set(live, h, false)
 }

@@ -28,6 +28,20 @@ impl<'a> Reader<'a> {
     }
 }
 
+// The body that a reader hands on, as a function of the reader.
+pub fn reader_body<'a>(r: Reader<'a>) -> &'a [u8]
+    ensures { result.now ≡ body_at r.entry.sheet.now r.entry.entry }
+{
+    r.body()
+}
+
+// The entry that a reader reads, likewise.
+pub fn reader_entry(r: Reader) -> Option<SheetEntry>
+    ensures { result ≡ entry_at r.entry.sheet.now r.entry.entry }
+{
+    r.entry()
+}
+
 // From a slice and a number to a reader and back: whoever calls this needs to know of no reader.
 pub fn read_entry(sheet: &[u8], i: u16) -> Option<SheetEntry>
     ensures { result ≡ entry_at sheet.now i }

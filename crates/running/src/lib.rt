@@ -15,6 +15,7 @@ ghost use Rattle.running.specs.Run.{RanSheet};
 
 use advance::{advance, step};
 use deciding::Refusal;
+pub use look::{Looks, Names};
 use reader::{Header, Malformed, check};
 use shapes::parse::call_of;
 use token::{Token, fresh};
@@ -51,14 +52,19 @@ pub fn call(mut token: Token, policy: u8, number: u8, body: &[u8]) -> Called
     requires { Reached token policy }
     ensures { Answered token policy number body.now result }
 {
-    let Some(command) = call_of(policy, number, body) else {
-        return Called {
-            token,
-            said: Err(Refusal::NotACall),
-        };
-    };
-    let said = step(&mut token, policy, command);
+    let said = call_on(&mut token, policy, number, body);
     Called { token, said }
+}
+
+// The same on a token that is lent, so that none is copied: for calls in a row.
+pub fn call_on(token: &mut Token, policy: u8, number: u8, body: &[u8]) -> Result<u16, Refusal>
+    requires { Reached token.old policy }
+    ensures { Answered token.old policy number body.now (record { token = token.new; said = result }) }
+{
+    let Some(command) = call_of(policy, number, body) else {
+        return Err(Refusal::NotACall);
+    };
+    step(token, policy, command)
 }
 
 // What is said as numbers of document 01's table: the answer, and the value.

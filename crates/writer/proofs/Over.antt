@@ -1,12 +1,14 @@
 -- Bytes over the front of a buffer, one part behind the other. Rests on the definition of `over` in the crate sheets.
 use Prim.Native.Nat.{ℕ, ◌+◌, ◌-◌, ◌/◌, ◌%◌, ◌≤◌, ◌<◌}
+use native.Mathlib.Nat.{zero-add}
+use native.Mathlib.Numerals.{add-one}
 use native.Mathlib.Omega.{arith}
 use mathlib.Core.Path.{◌≡◌, refl, sym, ap, ◌∙◌}
 use mathlib.Core.List.{List, [], ◌∷◌, ◌++◌, append_assoc, append-nil}
-use lib.ListN.{length, take, drop, set, length-append, length-drop}
-use lib.Seq.{drop-drop, take_at, drop_at}
+use lib.ListN.{length, get_or, take, drop, set, length-append, length-drop}
+use lib.Seq.{drop-drop, take-length, take_at, drop_at, paste, paste-zero, paste-suc, length-paste}
 use borrow.Rule.Slice.PartMut.{put_mid}
-use Rattle.std.proofs.lemmas.List.{take_rest, drop_all}
+use Rattle.std.proofs.lemmas.List.{take_rest, drop_all, length-take-le}
 use Rattle.sheets.specs.Bytes.{two}
 use Rattle.sheets.specs.Calls.{over}
 
@@ -66,3 +68,37 @@ unfolding two
 over_three a number out back h few e =
     let high : number / 256 % 256 ≡ number / 256 = omega arith in
     rw (e, high) (over_put (a ∷ []) (two number) out 1 2 (set out 0 a) refl refl (one a out (omega arith)))
+
+-- bytes copied one by one
+pub copied_none : (bytes before : List ℕ) → before ≡ paste before 0 bytes 0
+copied_none bytes before = paste-zero before 0 bytes
+
+pub copied_next : (bytes before out : List ℕ) (i : ℕ) → length bytes ≤ length before → i < length bytes
+    → out ≡ paste before 0 bytes i → set out i (get_or bytes i 0) ≡ paste before 0 bytes (i + 1)
+copied_next bytes before out i room h e =
+    let inside : 0 + i < length before = omega arith in
+    ap (λ (l : List ℕ). set l i (get_or bytes i 0)) e
+    ∙ simp (add-one, zero-add) (simp zero-add at (paste-suc before 0 bytes i 0 inside h))
+
+pub copied_length : (bytes before out : List ℕ) (i : ℕ) → length bytes ≤ length before → i ≤ length bytes
+    → out ≡ paste before 0 bytes i → length out ≡ length before
+copied_length bytes before out i room h e = rw e (length-paste before 0 bytes i (omega arith) h)
+
+pub copied_all : (bytes before out : List ℕ) (i : ℕ) → i ≤ length bytes → length bytes ≤ i
+    → out ≡ paste before 0 bytes i → out ≡ over bytes before
+unfolding over
+copied_all bytes before out i h h' e =
+    let all : i ≡ length bytes = omega arith in
+    rw (e, all, take-length, zero-add) refl
+
+-- bytes over a buffer of their length are all that stands there
+pub over_whole : (bytes out : List ℕ) → length out ≡ length bytes → over bytes out ≡ bytes
+unfolding over
+over_whole bytes out h = rw (drop_all (length bytes) out (omega (arith, h)), append-nil) refl
+
+-- the same of the part of a buffer that is lent for them
+pub over_part : (bytes out : List ℕ) (at : ℕ) → at + length bytes ≤ length out
+    → over bytes (take (at + length bytes - at) (drop at out)) ≡ bytes
+over_part bytes out at h =
+    over_whole bytes (take (at + length bytes - at) (drop at out))
+    (length-take-le (at + length bytes - at) (drop at out) (omega (arith, length-drop at out, h)) ∙ omega arith)

@@ -6,7 +6,7 @@ ghost use Rattle.sheets.specs.Calls.{over};
 ghost use Rattle.writer.specs.Writer.{handed_commands, asked_sheet};
 ghost use Rattle.writer.specs.Parts.{AllHeld, CommandAt};
 
-use crate::records::{Handed, command_at};
+use crate::records::{Handed, held_at};
 use shapes::parse::bodies_begin;
 
 // A policy, and the first `count` commands that are handed over.
@@ -29,13 +29,23 @@ fn put_three(out: &mut [u8], first: u8, number: u16)
     out[1..3].copy_from_slice(&number.to_be_bytes());
 }
 
+// Bytes over the front of a buffer, one by one: a body has four at most, and a call of C's to copy so few takes longer.
+fn put_bytes(bytes: &[u8], out: &mut [u8])
+    requires { length bytes.now ≤ length out.old }
+    ensures { out.new ≡ over bytes.now out.old }
+{
+    for i in 0..bytes.len() {
+        out[i] = bytes[i];
+    }
+}
+
 impl<'a> Asked<'a> {
     // The command with i commands before it.
     fn command(self, i: u16) -> Handed<'a>
         requires { i < self.count }
         ensures { CommandAt self.entry.handed.now i (Some result) }
     {
-        command_at(self.handed, i).unwrap()
+        held_at(self.handed, i)
     }
 
     // The table of contents: for each command its number and where its body begins.
@@ -61,7 +71,7 @@ impl<'a> Asked<'a> {
         for i in 0..self.count {
             let body = self.command(i).body;
             let end = at + body.len();
-            out[at..end].copy_from_slice(body);
+            put_bytes(body, &mut out[at..end]);
             at = end;
         }
     }

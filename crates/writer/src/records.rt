@@ -1,6 +1,7 @@
 // A command as it is handed over: a record of six bytes, the command number, the length of the body, and four bytes of which
 // so many are the body.
-ghost use Rattle.writer.specs.Parts.{CommandAt};
+ghost use Rattle.std.specs.Prelude.{Some};
+ghost use Rattle.writer.specs.Parts.{CommandAt, Held};
 
 use shapes::parse::{body_length, known_number};
 
@@ -26,9 +27,19 @@ pub fn command_at<'a>(handed: &'a [u8], i: u16) -> Option<Handed<'a>>
     if !known_number(number) || long != body_length(number) {
         return None;
     }
+    Some(held_at(handed, i))
+}
+
+// The same of a command that a sheet can hold, of which nothing has to be asked again.
+pub fn held_at<'a>(handed: &'a [u8], i: u16) -> Handed<'a>
+    requires { Held handed.now i }
+    ensures { CommandAt handed.now i (Some result) }
+{
+    let at = RECORD_LENGTH * i as usize;
     let from = at + 2;
-    Some(Handed {
-        number,
+    let long = handed[at + 1] as usize;
+    Handed {
+        number: handed[at],
         body: &handed[from..from + long],
-    })
+    }
 }

@@ -1,13 +1,11 @@
 -- `command_at` meets its contract: the record is asked for first, then its number, and then the
 -- length of its body, as the definition asks (Handed). Assumes nothing.
-use mathlib.Core.Path.{refl, sym, ◌∙◌}
+use mathlib.Core.Path.{sym, ◌∙◌}
 use native.Mathlib.Omega.{arith}
-use Prim.Native.Nat.{◌*◌}
 use Rattle.std.proofs.Common.{rules}
 use Rattle.sheets.specs.Bytes.{byte_at}
-use Rattle.sheets.proofs.Sizes.{body_most}
 use Rattle.writer.specs.Writer.{handed_number, handed_length}
-use Rattle.writer.proofs.Handed.{not_whole, unknown, other_length, body_lent}
+use Rattle.writer.proofs.Handed.{not_whole, unknown, other_length}
 use Rattle.writer.proofs.records.command_at.Goals as goal
 
 pub returns-then-handed-at : goal.returns-then-handed-at
@@ -17,18 +15,11 @@ pub returns-then-not-known_number : goal.returns-then-not-known_number
 unfolding byte_at handed_length handed_number
 returns-then-not-known_number c policy n = search (rules, unknown, other_length)
 
-pub slice_bounds-result-end : goal.slice_bounds-result-end
-unfolding byte_at
-slice_bounds-result-end c = omega (arith, c.body_length.ensures, body_most (byte_at c.args.handed.now (6 * c.args.i)))
-
-pub returns : goal.returns
+pub held_at-requires : goal.held_at-requires
 unfolding byte_at handed_length handed_number
-returns c = (
-  record {
-    whole = omega (arith, c.if-handed-at.false);
-    known = sym c.if-not-known_number.ensures;
-    its_length = c.if-long-body_length.false ∙ c.body_length.ensures;
-  },
-  refl,
-  body_lent _ _,
-)
+held_at-requires c =
+    record {
+      whole = omega (arith, c.if-handed-at.false);
+      known = sym c.if-not-known_number.ensures;
+      its_length = c.if-long-body_length.false ∙ c.body_length.ensures;
+    }

@@ -1,6 +1,7 @@
 -- `Asked::put_bodies` meets its contract (Putting). Assumes nothing.
 use native.Mathlib.Omega.{arith}
-use mathlib.Core.Path.{ap}
+use mathlib.Core.Path.{ap, ◌∙◌}
+use Rattle.writer.proofs.Over.{over_part}
 use lib.ListN.{length}
 use Rattle.writer.proofs.Handed.{body_short}
 use Rattle.writer.proofs.Putting.{copying_none, copying_small, copying_room, copying_next}
@@ -19,8 +20,8 @@ overflow_add-end c =
       ap length same,
     )
 
-pub slice_bounds-copy_from_slice-end : goal.slice_bounds-copy_from_slice-end
-slice_bounds-copy_from_slice-end c =
+pub slice_bounds-put_bytes-end : goal.slice_bounds-put_bytes-end
+slice_bounds-put_bytes-end c =
     let (held, numbered, same) = c.command.ensures in
     omega (
       arith,
@@ -30,5 +31,6 @@ slice_bounds-copy_from_slice-end c =
 pub loop-i-preserved : goal.loop-i-preserved
 loop-i-preserved c =
     let (held, numbered, same) = c.command.ensures in
+    let room = copying_room _ _ _ _ _ _ c.args.self.held c.requires c.loop-i.invariant c.args.self.bytes c.loop-i-test.true same in
     copying_next _ _ _ _ _ _ c.args.self.held c.requires c.loop-i.invariant c.args.self.bytes c.loop-i-test.true
-    same c.copy_from_slice.ensures.after
+    same (c.put_bytes.ensures ∙ over_part _ _ _ room)

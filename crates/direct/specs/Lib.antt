@@ -1,0 +1,2 @@
+-- Why the answers always have room.
+pub mod Progress

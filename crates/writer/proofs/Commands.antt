@@ -1,14 +1,12 @@
--- What `command_at` answers, as it is asked for: by `ok_or`, or by `unwrap` where a sheet can hold the command. Rests on Handed.
+-- What `command_at` answers, as it is asked for: by `ok_or`. Assumes nothing.
 use Prim.Native.Nat.{ℕ}
-use mathlib.Core.Path.{◌≡◌, refl, sym, subst, ◌∙◌}
-use mathlib.Core.Bool.{true≢false}
+use mathlib.Core.Path.{◌≡◌, subst}
 use mathlib.Core.List.{List}
 use Rattle.std.specs.Prelude.{Option, Some, None, Result, Ok, Err}
-use Rattle.std.specs.Option.{ok_or, IsSome}
+use Rattle.std.specs.Option.{ok_or}
 use Rattle.shapes.specs.declared.CallError.{CallError}
 use Rattle.writer.specs.declared.records.Handed.{Handed}
-use Rattle.writer.specs.Parts.{Held, CommandAt}
-use Rattle.writer.proofs.Handed.{passes}
+use Rattle.writer.specs.Parts.{CommandAt}
 
 module _ (handed : List ℕ) (i : ℕ) where
   -- a command, or the error that was to be given
@@ -24,8 +22,3 @@ module _ (handed : List ℕ) (i : ℕ) where
       → CommandAt handed i r → CommandAt handed i None × (e ≡ error)
   err_found None error e q at = (at, cc)
   err_found (Some c) error e q at = cc
-
-  -- one that a sheet can hold is found
-  pub found : (r : Option Handed) → Held handed i → CommandAt handed i r → IsSome r
-  found None held at = absurd (true≢false (sym (at 0 0) ∙ passes handed i 0 0 held))
-  found (Some c) held at = refl

@@ -6,7 +6,7 @@ use native.Mathlib.Omega.{arith}
 use mathlib.Core.Path.{◌≡◌, refl, sym, ap, ◌∙◌}
 use mathlib.Core.List.{List, [], ◌∷◌, ◌++◌, append_assoc, append-nil}
 use lib.ListN.{length, get_or, take, drop, set, length-append, length-drop}
-use lib.Seq.{drop-drop, take-length, take_at, drop_at, paste, paste-zero, paste-suc, length-paste}
+use lib.Seq.{drop-drop, take-length, take_at, drop_at, paste, paste-zero, paste-suc}
 use borrow.Rule.Slice.PartMut.{put_mid}
 use Rattle.std.proofs.lemmas.List.{take_rest, drop_all, length-take-le}
 use Rattle.sheets.specs.Bytes.{two}
@@ -79,10 +79,6 @@ copied_next bytes before out i room h e =
     let inside : 0 + i < length before = omega arith in
     ap (λ (l : List ℕ). set l i (get_or bytes i 0)) e
     ∙ simp (add-one, zero-add) (simp zero-add at (paste-suc before 0 bytes i 0 inside h))
-
-pub copied_length : (bytes before out : List ℕ) (i : ℕ) → length bytes ≤ length before → i ≤ length bytes
-    → out ≡ paste before 0 bytes i → length out ≡ length before
-copied_length bytes before out i room h e = rw e (length-paste before 0 bytes i (omega arith) h)
 
 pub copied_all : (bytes before out : List ℕ) (i : ℕ) → i ≤ length bytes → length bytes ≤ i
     → out ≡ paste before 0 bytes i → out ≡ over bytes before
